@@ -1,0 +1,125 @@
+-- What each call answers, and what it leaves in the lent buffer.
+-- Assumes nothing.
+use Prim.Native.Nat.{ℕ, _+_, _-_, _*_, _<_}
+use mathlib.Core.Bool.{Bool, _||_, cond}
+use mathlib.Core.List.{List, [], _∷_, _++_}
+use mathlib.Core.Option.{Option, some, none}
+use mathlib.Core.Path.{_≡_}
+use lib.Dec.{eqb, ltb}
+use lib.ListN.{length, drop, replicate}
+use Rattle.schedule.specs.Bounded.{total, greatest, least, ones}
+use Rattle.schedule.specs.Rule.{Rule, Refusal, firstBreak}
+use Rattle.schedule.specs.Model.{Model, model, modelForm}
+use Rattle.schedule.specs.Choice.{Choice, choice, choiceForm}
+use Rattle.schedule.specs.Plan.{Plan, plan, planForm, planLength, planBytes}
+use Rattle.schedule.specs.Machine.{machineWord, machineStart, machineEnd, machineOwes}
+use Rattle.schedule.specs.Checks.{countOf, plainRules, strictRules, deadlineRule}
+
+-- what a call answers: what a pass answers, or the refusal
+pub data Answer (F : Type 0) : Type 0 where
+  accepted : F → Answer F
+  refused : Refusal → Answer F
+
+-- a pass unless a rule is broken
+unfoldable pub answer : {F : Type 0} → Option Refusal → F → Answer F
+answer none pass = accepted pass
+answer (some x) pass = refused x
+
+-- "A pass answers usage (all ones), c times H, makespan"
+pub record Figures : Type 0 where
+  pub usage : ℕ
+  pub capacity : ℕ
+  pub makespan : ℕ
+
+-- usage is counted from the words; makespan is the greatest end less the least release over all threads
+unfoldable pub figures : Model → Plan → Figures
+figures m p = record {
+    usage = total (m .horizon) (λ t. ones (p .word t));
+    capacity = m .cores * m .horizon;
+    makespan = greatest (m .activities) (p .end) - least (m .threads) (p .release)
+}
+
+-- the rules of a check on two byte strings, in the order in which they are tried
+unfoldable pub plainChecks : List ℕ → List ℕ → List Rule
+plainChecks s r = modelForm s ++ (planForm (model s) r ++ plainRules (model s) (plan r))
+
+unfoldable pub strictChecks : List ℕ → List ℕ → List Rule
+strictChecks s r = modelForm s ++ (planForm (model s) r ++ strictRules (model s) (plan r))
+
+-- the plain check's verdict on a model's and a plan's bytes
+unfoldable pub plainVerdict : List ℕ → List ℕ → Answer Figures
+plainVerdict s r = answer (firstBreak (plainChecks s r)) (figures (model s) (plan r))
+
+-- the strict check's
+unfoldable pub strictVerdict : List ℕ → List ℕ → Answer Figures
+strictVerdict s r = answer (firstBreak (strictChecks s r)) (figures (model s) (plan r))
+
+-- "the well-formed plan with the chosen releases and periods and the machine's starts, ends and words"
+unfoldable pub machinePlan : Model → Choice → Plan
+machinePlan m q = record {
+    threads = m .threads;
+    activities = m .activities;
+    horizon = m .horizon;
+    release = q .release;
+    period = q .period;
+    start = machineStart m (q .release) (q .duration);
+    end = machineEnd m (q .release) (q .duration);
+    word = machineWord m (q .release) (q .duration)
+}
+
+-- 42 something owed after tick H − 1; A the lowest such activity
+unfoldable pub owedRule : Model → Choice → Rule
+owedRule m q = record {
+    number = 42; rows = m .activities; columns = 1;
+    Holds = λ a _. machineOwes m (q .release) (q .duration) a ≡ 0;
+    test = λ a _. eqb (machineOwes m (q .release) (q .duration) a) 0
+}
+
+-- 42, then 43 all ended, an end breaks rule 23; A the lowest
+unfoldable pub runRules : Model → Choice → List Rule
+runRules m q =
+    owedRule m q ∷ deadlineRule 43 m (q .period) (machineEnd m (q .release) (q .duration)) ∷ []
+
+-- "It answers the length, usage, c times H, and makespan"
+pub record Written : Type 0 where
+  pub length : ℕ
+  pub figures : Figures
+
+-- the length of the plan that a model asks for
+unfoldable pub lengthNeeded : Model → ℕ
+lengthNeeded m = planLength (m .threads) (m .activities) (m .horizon)
+
+-- the rules of the run on its two records, in the order in which they are tried
+unfoldable pub runChecks : List ℕ → List ℕ → List Rule
+runChecks s q = modelForm s ++ choiceForm (model s) q
+
+-- the run's answer past the input: 41 buffer shorter than the plan, A is the length needed; then 42 and 43
+unfoldable pub outcome : Model → Choice → ℕ → Answer Written
+outcome m q room =
+    cond (ltb room (lengthNeeded m)) (refused (record { number = 41; A = lengthNeeded m; B = 0 }))
+    (answer (firstBreak (runRules m q)) (record { length = lengthNeeded m; figures = figures m (machinePlan m q) }))
+
+-- the run's answer on a model's and a choice's bytes and the buffer's length
+unfoldable pub runAnswer : List ℕ → List ℕ → ℕ → Answer Written
+runAnswer s q room =
+    elim (firstBreak (runChecks s q)) [ some x ↦ refused x | none ↦ outcome (model s) (choice q) room ]
+
+-- what the run leaves in the lent buffer: the plan on success; "42 and 43 set the plan's length of bytes to 0"; "Input
+-- refusals and 41 change no byte"; "Bytes beyond the plan's length never change"
+unfoldable pub bufferAfter : Answer Written → Model → Choice → List ℕ → List ℕ
+bufferAfter (accepted w) m q buffer = planBytes (machinePlan m q) ++ drop (w .length) buffer
+bufferAfter (refused x) m q buffer =
+    cond (eqb (x .number) 42 || eqb (x .number) 43)
+    (replicate (lengthNeeded m) 0 ++ drop (lengthNeeded m) buffer)
+    buffer
+
+-- the whole buffer after the run
+unfoldable pub runBuffer : List ℕ → List ℕ → List ℕ → List ℕ
+runBuffer s q buffer = bufferAfter (runAnswer s q (length buffer)) (model s) (choice q) buffer
+
+-- "A plan has the choices of such a record when its releases and periods equal the record's and, for each activity a,
+-- count(a) is the chosen duration of a"
+pub record HasChoices (m : Model) (q : Choice) (p : Plan) : Type 0 where
+  pub releases : (j : ℕ) → j < m .threads → p .release j ≡ q .release j
+  pub periods : (j : ℕ) → j < m .threads → p .period j ≡ q .period j
+  pub durations : (a : ℕ) → a < m .activities → countOf m p a ≡ q .duration a

@@ -1,0 +1,10 @@
+-- The grid checker's paper as definitions. Read them in this order; no proof file is needed to read them.
+pub mod Bounded
+pub mod Fields
+pub mod Rule
+pub mod Model
+pub mod Choice
+pub mod Plan
+pub mod Machine
+pub mod Checks
+pub mod Answers
