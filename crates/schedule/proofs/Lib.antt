@@ -1,2 +1,12 @@
 pub mod Tests
 pub mod Sound
+pub mod Counting
+pub mod Words
+pub mod Selection
+pub mod MachineLaws
+pub mod EfeLaws
+pub mod Lowest
+pub mod FieldLaws
+pub mod Parts
+pub mod PlanBytes
+pub mod PlanForm

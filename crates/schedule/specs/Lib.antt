@@ -7,4 +7,5 @@ pub mod Choice
 pub mod Plan
 pub mod Machine
 pub mod Checks
+pub mod Keeps
 pub mod Answers

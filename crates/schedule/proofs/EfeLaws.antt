@@ -1,0 +1,100 @@
+-- efe is what the paper's equation says, for a model whose predecessors have lower numbers; and what rule 27 needs of it.
+-- Assumes nothing.
+use Prim.Native.Nat.{ℕ, zero, suc, _+_, _≤_, _<_, max}
+use native.Mathlib.Numerals.{add-one}
+use native.Mathlib.Omega.{arith}
+use mathlib.Core.Bool.{Bool, true, false, cond}
+use mathlib.Core.List.{List, [], _∷_, _++_}
+use mathlib.Core.Logic.{⊎-elim}
+use mathlib.Core.Path.{_≡_, refl, sym, subst, ap, ap₂, _∙_}
+use lib.Dec.{T}
+use lib.ListN.{length, getD, length-append, List·getD-append}
+use lib.Seq.{getD-at}
+use Rattle.schedule.specs.Bounded.{greatest}
+use Rattle.schedule.specs.Model.{Model, temporally, byData}
+use Rattle.schedule.specs.Plan.{Plan}
+use Rattle.schedule.specs.Checks.{countOf, efeFrom, efes, efe}
+use Rattle.schedule.proofs.Tests.{below-suc}
+
+pub greatest-ext : (n : ℕ) (f g : ℕ → ℕ) → ((i : ℕ) → i < n → f i ≡ g i) → greatest n f ≡ greatest n g
+unfolding greatest
+greatest-ext zero f g h = refl
+greatest-ext (suc n) f g h = ap₂ max (greatest-ext n f g (λ i l. h i (omega arith))) (h n (omega arith))
+
+pub greatest-bound : (n : ℕ) (f : ℕ → ℕ) (x : ℕ) → ((i : ℕ) → i < n → f i ≤ x) → greatest n f ≤ x
+unfolding greatest
+greatest-bound zero f x h = omega arith
+greatest-bound (suc n) f x h = omega (arith, greatest-bound n f x (λ i l. h i (omega arith)), h n (omega arith))
+
+-- "b must be below the row's own number"
+pub record Ordered (m : Model) : Type 0 where
+  pub temporal : (a b : ℕ) → a < m .activities → b < m .activities → T (temporally m b a) → b < a
+  pub by-data : (a b : ℕ) → a < m .activities → b < m .activities → T (byData m b a) → b < a
+
+-- a term that counts only where a test passes
+if-same : (t : Bool) (x y : ℕ) → (T t → x ≡ y) → cond t x 0 ≡ cond t y 0
+if-same true x y h = h tt
+if-same false x y h = refl
+
+if-bound : (t : Bool) (x y : ℕ) → (T t → x ≤ y) → cond t x 0 ≤ y
+if-bound true x y h = h tt
+if-bound false x y h = omega arith
+
+module _ (m : Model) (p : Plan) where
+  length-efes : (k : ℕ) → length (efes m p k) ≡ k
+  unfolding efes
+  length-efes zero = refl
+  length-efes (suc k) =
+      length-append (efes m p k) (efeFrom m p (λ b. getD (efes m p k) b 0) k ∷ [])
+      ∙ ap (λ (i : ℕ). i + 1) (length-efes k) ∙ add-one k
+
+  -- a longer table begins with a shorter one
+  efes-keep : (k n a : ℕ) → k ≤ n → a < k → getD (efes m p n) a 0 ≡ getD (efes m p k) a 0
+  unfolding efes
+  efes-keep k zero a h l = absurd (omega arith)
+  efes-keep k (suc n) a h l =
+      ⊎-elim (λ (b : k < suc n). longer (efes-keep k n a (omega arith) l) (omega arith))
+      (λ (e : k ≡ suc n). ap (λ (i : ℕ). getD (efes m p i) a 0) (sym e))
+      (below-suc k (suc n) (omega arith))
+    where
+      longer : getD (efes m p n) a 0 ≡ getD (efes m p k) a 0 → a < n
+          → getD (efes m p n ++ (efeFrom m p (λ b. getD (efes m p n) b 0) n ∷ [])) a 0 ≡ getD (efes m p k) a 0
+      longer ih l =
+          List·getD-append (efes m p n) (efeFrom m p (λ b. getD (efes m p n) b 0) n ∷ []) 0 a
+          (omega (arith, length-efes n)) ∙ ih
+
+  -- each entry is made from those before it
+  efe-made : (a : ℕ) → a < m .activities → efe m p a ≡ efeFrom m p (λ b. getD (efes m p a) b 0) a
+  unfolding efe efes
+  efe-made a l =
+      efes-keep (suc a) (m .activities) a l (omega arith)
+      ∙ getD-at (efes m p a) (efeFrom m p (λ b. getD (efes m p a) b 0) a) [] 0 a (length-efes a)
+
+  -- "efe(a) is the largest of the thread's release, efe(b) + count(b) + delay(b) over temporal predecessors b, and
+  -- efe(b) + count(b) over data predecessors b"
+  pub efe-equation : Ordered m → (a : ℕ) → a < m .activities → efe m p a ≡ efeFrom m p (efe m p) a
+  unfolding efeFrom efe
+  efe-equation o a l =
+      efe-made a l
+      ∙ ap₂ (λ (x y : ℕ). max (p .release (m .thread a)) (max x y))
+      (greatest-ext (m .activities) _ _ (λ b lb. if-same (temporally m b a) _ _
+          (λ t. ap (λ (e : ℕ). e + countOf m p b + m .delay b) (sym (efes-keep a (m .activities) b (omega arith) (o .temporal a b l lb t))))))
+      (greatest-ext (m .activities) _ _ (λ b lb. if-same (byData m b a) _ _
+          (λ t. ap (λ (e : ℕ). e + countOf m p b) (sym (efes-keep a (m .activities) b (omega arith) (o .by-data a b l lb t))))))
+
+  pub efe-release : Ordered m → (a : ℕ) → a < m .activities → p .release (m .thread a) ≤ efe m p a
+  unfolding efeFrom
+  efe-release o a l = omega (arith, efe-equation o a l)
+
+  -- nothing that efe is the largest of passes x, so efe does not
+  pub efe-bound : Ordered m → (a x : ℕ) → a < m .activities → p .release (m .thread a) ≤ x
+      → ((b : ℕ) → b < m .activities → T (temporally m b a) → efe m p b + countOf m p b + m .delay b ≤ x)
+      → ((b : ℕ) → b < m .activities → T (byData m b a) → efe m p b + countOf m p b ≤ x)
+      → efe m p a ≤ x
+  unfolding efeFrom
+  efe-bound o a x l r ht hd =
+      omega (arith, efe-equation o a l, r,
+      greatest-bound (m .activities) (λ b. cond (temporally m b a) (efe m p b + countOf m p b + m .delay b) 0) x
+          (λ b lb. if-bound (temporally m b a) _ x (ht b lb)),
+      greatest-bound (m .activities) (λ b. cond (byData m b a) (efe m p b + countOf m p b) 0) x
+          (λ b lb. if-bound (byData m b a) _ x (hd b lb)))

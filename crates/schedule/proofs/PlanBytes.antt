@@ -1,0 +1,152 @@
+-- The bytes written from a plan's parts: how many they are, and that a plan whose parts fit is read back from them.
+-- Assumes nothing.
+use Prim.Native.Nat.{ℕ, _+_, _*_, _^_, _<_}
+use native.Mathlib.Omega.{arith}
+use mathlib.Core.List.{List, _++_}
+use mathlib.Core.Path.{_≡_}
+use lib.ListN.{length, length-append}
+use Rattle.schedule.specs.Bounded.{rows}
+use Rattle.schedule.specs.Fields.{field, bytes, Bytes}
+use Rattle.schedule.specs.Plan.{Plan, plan, planBytes, planLength}
+use Rattle.schedule.proofs.FieldLaws.{length-bytes, bytes-bytes, length-rows, bytes-append, bytes-rows}
+use Rattle.schedule.proofs.Parts.{Stands, stands-whole, stands-first, stands-second}
+use Rattle.schedule.proofs.Parts.{stands-field, stands-next, stands-row}
+
+-- every part of a plan fits the bytes that it is written in
+pub record Fits (p : Plan) : Type 0 where
+  pub threads : p .threads < 256
+  pub activities : p .activities < 256
+  pub horizon : p .horizon < 65536
+  pub length : planLength (p .threads) (p .activities) (p .horizon) < 256 ^ 4
+  pub release : (j : ℕ) → j < p .threads → p .release j < 65536
+  pub period : (j : ℕ) → j < p .threads → p .period j < 65536
+  pub start : (a : ℕ) → a < p .activities → p .start a < 65536
+  pub end : (a : ℕ) → a < p .activities → p .end a < 65536
+  pub word : (t : ℕ) → t < p .horizon → p .word t < 256 ^ 4
+
+-- the plan's bytes read as a plan: its length, its version and every part
+pub record ReadsBack (p : Plan) : Type 0 where
+  pub length : field (planBytes p) 0 4 ≡ planLength (p .threads) (p .activities) (p .horizon)
+  pub version : field (planBytes p) 4 1 ≡ 1
+  pub threads : plan (planBytes p) .threads ≡ p .threads
+  pub activities : plan (planBytes p) .activities ≡ p .activities
+  pub horizon : plan (planBytes p) .horizon ≡ p .horizon
+  pub release : (j : ℕ) → j < p .threads → plan (planBytes p) .release j ≡ p .release j
+  pub period : (j : ℕ) → j < p .threads → plan (planBytes p) .period j ≡ p .period j
+  pub start : (a : ℕ) → a < p .activities → plan (planBytes p) .start a ≡ p .start a
+  pub end : (a : ℕ) → a < p .activities → plan (planBytes p) .end a ≡ p .end a
+  pub word : (t : ℕ) → t < p .horizon → plan (planBytes p) .word t ≡ p .word t
+
+-- the row of two fields of 2 bytes, and the bytes of a plan from each of its parts on
+abbrev pair : (ℕ → ℕ) → (ℕ → ℕ) → ℕ → List ℕ
+pair f g j = bytes 2 (f j) ++ bytes 2 (g j)
+
+abbrev words : Plan → List ℕ
+words p = rows (p .horizon) (λ t. bytes 4 (p .word t))
+
+abbrev spans : Plan → List ℕ
+spans p = rows (p .activities) (pair (p .start) (p .end)) ++ words p
+
+abbrev choices : Plan → List ℕ
+choices p = rows (p .threads) (pair (p .release) (p .period)) ++ spans p
+
+abbrev fromHorizon : Plan → List ℕ
+fromHorizon p = bytes 2 (p .horizon) ++ choices p
+
+abbrev fromActivities : Plan → List ℕ
+fromActivities p = bytes 1 (p .activities) ++ fromHorizon p
+
+abbrev fromThreads : Plan → List ℕ
+fromThreads p = bytes 1 (p .threads) ++ fromActivities p
+
+abbrev fromVersion : Plan → List ℕ
+fromVersion p = bytes 1 1 ++ fromThreads p
+
+length-pair : (f g : ℕ → ℕ) (j : ℕ) → length (pair f g j) ≡ 4
+length-pair f g j = simp (length-append, length-bytes)
+
+-- ---- how many bytes, and that they are bytes
+
+pub length-planBytes : (p : Plan) → length (planBytes p) ≡ planLength (p .threads) (p .activities) (p .horizon)
+unfolding planBytes
+length-planBytes p =
+    simp (length-append, length-bytes)
+    (omega (
+      arith,
+      length-rows 4 (p .threads) (pair (p .release) (p .period)) (λ j _. length-pair (p .release) (p .period) j),
+      length-rows 4 (p .activities) (pair (p .start) (p .end)) (λ a _. length-pair (p .start) (p .end) a),
+      length-rows 4 (p .horizon) (λ t. bytes 4 (p .word t)) (λ t _. length-bytes 4 (p .word t)),
+    ))
+
+bytes-pair : (f g : ℕ → ℕ) (j : ℕ) → Bytes (pair f g j)
+bytes-pair f g j = bytes-append (bytes 2 (f j)) (bytes 2 (g j)) (bytes-bytes 2 (f j)) (bytes-bytes 2 (g j))
+
+bytes-field : (k v : ℕ) (c : List ℕ) → Bytes c → Bytes (bytes k v ++ c)
+bytes-field k v c h = bytes-append (bytes k v) c (bytes-bytes k v) h
+
+bytes-pairs : (n : ℕ) (f g : ℕ → ℕ) (c : List ℕ) → Bytes c → Bytes (rows n (pair f g) ++ c)
+bytes-pairs n f g c h = bytes-append (rows n (pair f g)) c (bytes-rows n (pair f g) (λ j _. bytes-pair f g j)) h
+
+pub bytes-planBytes : (p : Plan) → Bytes (planBytes p)
+unfolding planBytes
+bytes-planBytes p =
+    bytes-field 4 (planLength (p .threads) (p .activities) (p .horizon)) (fromVersion p)
+    (bytes-field 1 1 (fromThreads p)
+    (bytes-field 1 (p .threads) (fromActivities p)
+    (bytes-field 1 (p .activities) (fromHorizon p)
+    (bytes-field 2 (p .horizon) (choices p)
+    (bytes-pairs (p .threads) (p .release) (p .period) (spans p)
+    (bytes-pairs (p .activities) (p .start) (p .end) (words p)
+    (bytes-rows (p .horizon) (λ t. bytes 4 (p .word t)) (λ t _. bytes-bytes 4 (p .word t)))))))))
+
+-- ---- the round trip
+
+-- two runs of fields in rows of 4 bytes that stand at a position, and what stands behind them
+stands-pairs : (s : List ℕ) (at n : ℕ) (f g : ℕ → ℕ) (c : List ℕ) → Stands s at (rows n (pair f g) ++ c)
+    → ((j : ℕ) → j < n → f j < 65536) → ((j : ℕ) → j < n → g j < 65536)
+    → ((j : ℕ) → j < n → field s (at + 4 * j) 2 ≡ f j) × ((j : ℕ) → j < n → field s (at + 4 * j + 2) 2 ≡ g j)
+    × Stands s (at + 4 * n) c
+stands-pairs s at n f g c h small small′ = (λ j l. both j l .0, λ j l. both j l .1, behind)
+  where
+    row : (j : ℕ) → j < n → Stands s (at + 4 * j) (pair f g j)
+    row = stands-row s at 4 n (pair f g) (λ j _. length-pair f g j) (stands-first s at (rows n (pair f g)) c h)
+
+    both : (j : ℕ) → j < n → (field s (at + 4 * j) 2 ≡ f j) × (field s (at + 4 * j + 2) 2 ≡ g j)
+    both j l =
+        let one = stands-next s (at + 4 * j) 2 (f j) (bytes 2 (g j)) (row j l) (small j l) in
+        (one .0, stands-field s (at + 4 * j + 2) 2 (g j) (one .1) (small′ j l))
+
+    behind : Stands s (at + 4 * n) c
+    behind =
+        stands-second s at (rows n (pair f g)) c h (4 * n)
+        (length-rows 4 n (pair f g) (λ j _. length-pair f g j))
+
+pub reads-back : (p : Plan) → Fits p → ReadsBack p
+unfolding planBytes plan
+reads-back p fits =
+    let r : List ℕ = planBytes p in
+    let n : ℕ = p .threads in
+    let m : ℕ = p .activities in
+    let H : ℕ = p .horizon in
+    let (length, h₄) = stands-next r 0 4 (planLength n m H) (fromVersion p) (stands-whole r) (fits .length) in
+    let (version, h₅) = stands-next r 4 1 1 (fromThreads p) h₄ (omega arith) in
+    let (threads, h₆) = stands-next r 5 1 n (fromActivities p) h₅ (fits .threads) in
+    let (activities, h₇) = stands-next r 6 1 m (fromHorizon p) h₆ (fits .activities) in
+    let (horizon, h₉) = stands-next r 7 2 H (choices p) h₇ (fits .horizon) in
+    let (release, period, hs) = stands-pairs r 9 n (p .release) (p .period) (spans p) h₉ (fits .release) (fits .period) in
+    let at : ℕ = 9 + 4 * n in
+    let (start, end, hw) = stands-pairs r at m (p .start) (p .end) (words p) hs (fits .start) (fits .end) in
+    let row = stands-row r (at + 4 * m) 4 H (λ t. bytes 4 (p .word t)) (λ t _. length-bytes 4 (p .word t)) hw in
+    record {
+      length = length;
+      version = version;
+      threads = threads;
+      activities = activities;
+      horizon = horizon;
+      release = release;
+      period = period;
+      start = λ a l. rw threads (start a l);
+      end = λ a l. rw threads (end a l);
+      word = λ t l. rw (threads, activities)
+          (stands-field r (at + 4 * m + 4 * t) 4 (p .word t) (row t l) (fits .word t l));
+    }

@@ -1,0 +1,41 @@
+-- What it is to keep the rules: each of 21 to 31 with its quantifiers, as the paper writes it. Nothing here computes.
+-- Assumes nothing.
+use Prim.Native.Nat.{ℕ, _+_, _≤_, _<_}
+use mathlib.Core.Path.{_≡_}
+use lib.Dec.{T}
+use Rattle.schedule.specs.Bounded.{ones}
+use Rattle.schedule.specs.Model.{Model, priorityOf, temporally, byData, Within}
+use Rattle.schedule.specs.Plan.{Plan, active}
+use Rattle.schedule.specs.Checks.{countOf, efe, Waiting, Window}
+
+-- rules 21 to 29
+pub record KeepsPlain (m : Model) (p : Plan) : Type 0 where
+  -- 21 window: start < end ≤ H, bits set at start and end − 1, none outside
+  pub window : (a : ℕ) → a < m .activities → Window m p a
+  -- 22 count within the duration range
+  pub duration : (a : ℕ) → a < m .activities → Within (m .least-duration a) (m .most-duration a) (countOf m p a)
+  -- 23 a thread with a period has end ≤ that period
+  pub deadline : (a : ℕ) → a < m .activities → ¬ (p .period (m .thread a) ≡ 0) → p .end a ≤ p .period (m .thread a)
+  -- 24 end − start ≥ count
+  pub span : (a : ℕ) → a < m .activities → p .start a + countOf m p a ≤ p .end a
+  -- 25 start ≥ end + delay of each temporal predecessor
+  pub temporal : (a b : ℕ) → a < m .activities → b < m .activities → T (temporally m b a)
+      → p .end b + m .delay b ≤ p .start a
+  -- 26 start ≥ end of each data predecessor
+  pub by-data : (a b : ℕ) → a < m .activities → b < m .activities → T (byData m b a) → p .end b ≤ p .start a
+  -- 27 start ≥ efe
+  pub eligible : (a : ℕ) → a < m .activities → efe m p a ≤ p .start a
+  -- 28 at most c ones in the word
+  pub cores : (t : ℕ) → t < m .horizon → ones (p .word t) ≤ m .cores
+  -- 29 with exactly c ones, no waiting activity has a priority above an active one's
+  pub priority : (t b : ℕ) → t < m .horizon → b < m .activities → ones (p .word t) ≡ m .cores → Waiting m p t b
+      → (a : ℕ) → a < m .activities → T (active p t a) → priorityOf m b ≤ priorityOf m a
+
+-- rules 21 to 31
+pub record KeepsStrict (m : Model) (p : Plan) : Type 0 where
+  pub plain : KeepsPlain m p
+  -- 30 with fewer than c ones, nothing waits
+  pub idle : (t b : ℕ) → t < m .horizon → b < m .activities → ones (p .word t) < m .cores → ¬ Waiting m p t b
+  -- 31 with exactly c ones, no waiting activity has the priority of an active activity with a larger number
+  pub tie : (t b : ℕ) → t < m .horizon → b < m .activities → ones (p .word t) ≡ m .cores → Waiting m p t b
+      → (a : ℕ) → a < m .activities → T (active p t a) → b < a → ¬ (priorityOf m b ≡ priorityOf m a)
