@@ -136,6 +136,15 @@ count-stops k n p h none-more =
     | no l ↦ omega (arith, count-grows k n p h)
     ]
 
+-- a count grows by at most one for each number passed
+pub count-span : (k n : ℕ) (p : ℕ → Bool) → k ≤ n → count n p + k ≤ count k p + n
+count-span k zero p h = let e : k ≡ 0 = omega arith in omega (arith, ap (λ i. count i p) e)
+count-span k (suc n) p h =
+    ⊎-elim
+    (λ (l : k < suc n). omega (arith, count-suc n p, at-most-one (p n), count-span k n p (omega arith)))
+    (λ (e : k ≡ suc n). omega (arith, ap (λ i. count i p) e))
+    (below-suc k (suc n) (omega arith))
+
 -- what has r has p or q
 pub count-union : (n : ℕ) (r p q : ℕ → Bool) → ((i : ℕ) → i < n → T (r i) → T (p i) ⊎ T (q i))
     → count n r ≤ count n p + count n q

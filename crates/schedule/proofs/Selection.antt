@@ -16,7 +16,7 @@ use Rattle.schedule.proofs.Tests.{tests, T-and, T-or, below-suc}
 use Rattle.schedule.proofs.Counting.{decT, T-ext, count-mono, count-less, count-union, count-single, count-none}
 
 -- b ranks before a, as a statement
-pub Before : Model → ℕ → ℕ → Type 0
+unfoldable pub Before : Model → ℕ → ℕ → Type 0
 Before m b a = (priorityOf m a < priorityOf m b) ⊎ ((priorityOf m b ≡ priorityOf m a) × (b < a))
 
 above : Model → ℕ → ℕ → Bool

@@ -1,27 +1,123 @@
+-- Each test of the definitions decides the statement that stands beside it, rule by rule and list by list.
+-- Assumes nothing.
 use Prim.Native.Nat.{ℕ}
+use mathlib.Core.List.{List, _++_}
 use mathlib.Core.Logic.{_↔_, Iff·rfl}
 use lib.Dec.{T}
 use Rattle.schedule.specs.Rule.{Rule}
-use Rattle.schedule.specs.Model.{Model, threadRule, maskRule, limitsRule}
-use Rattle.schedule.specs.Plan.{Plan}
-use Rattle.schedule.specs.Checks.{rule25}
+use Rattle.schedule.specs.Model.{
+  Model,
+  model,
+  lengthRule,
+  versionRule,
+  formulaRule,
+  limitsRule,
+  threadRule,
+  activityRule,
+  maskRule,
+  modelForm,
+}
+use Rattle.schedule.specs.Choice.{Choice, choiceCounts, rangeRule, durationRule, choiceForm}
+use Rattle.schedule.specs.Plan.{Plan, plan, planCounts, wordRule, planForm}
+use Rattle.schedule.specs.Checks.{
+  Window,
+  window,
+  Waiting,
+  waits,
+  deadlineRule,
+  plainRules,
+  strictRules,
+  rule21,
+  rule22,
+  rule23,
+  rule24,
+  rule25,
+  rule26,
+  rule27,
+  rule28,
+  rule29,
+  rule30,
+  rule31,
+}
+use Rattle.schedule.specs.Answers.{owedRule, runRules, plainChecks, strictChecks, runChecks}
 use Rattle.schedule.proofs.Tests.{tests}
+use Rattle.schedule.proofs.FirstBreak.{AllSound, sound-append, _&_}
 
-abbrev pub Sound : Rule → Type 0
-Sound r = (a b : ℕ) → T (r .test a b) ↔ r .Holds a b
+-- the two statements that are records, by their parts
+pub window-sound : (m : Model) (p : Plan) (a : ℕ) → T (window m p a) ↔ Window m p a
+unfolding window
+window-sound m p a = simp tests (
+  λ h. record {
+    ordered = h .0 .0;
+    inside = h .0 .1;
+    first-set = h .1 .0 .0;
+    last-set = h .1 .0 .1;
+    none-outside = h .1 .1;
+  },
+  λ w. ((w .ordered, w .inside), ((w .first-set, w .last-set), w .none-outside)),
+)
 
-thread-sound : (m : Model) → Sound (threadRule m)
-unfolding threadRule
-thread-sound m a b = simp tests Iff·rfl
+pub waits-sound : (m : Model) (p : Plan) (t a : ℕ) → T (waits m p t a) ↔ Waiting m p t a
+unfolding waits
+waits-sound m p t a = simp tests (
+  λ h. record {
+    clear = h .0 .0;
+    eligible = h .0 .1 .0;
+    unended = h .0 .1 .1;
+    temporal = h .1 .0;
+    by-data = h .1 .1;
+  },
+  λ w. ((w .clear, (w .eligible, w .unended)), (w .temporal, w .by-data)),
+)
 
-mask-sound : (m : Model) → Sound (maskRule m)
-unfolding maskRule
-mask-sound m a b = simp tests Iff·rfl
+-- a whole rule's test, read at once
+ruleset whole = (tests, window-sound, waits-sound)
 
-lim-sound : (m : Model) → Sound (limitsRule m)
-unfolding limitsRule
-lim-sound m a b = simp tests Iff·rfl
+-- once its test is read, a rule's test and its statement are the same
+same : (P : ℕ → ℕ → Type 0) (a b : ℕ) → P a b ↔ P a b
+same P a b = Iff·rfl
 
-sound25 : (m : Model) (p : Plan) → Sound (rule25 m p)
-unfolding rule25
-sound25 m p a b = simp tests Iff·rfl
+-- the lists of rules, each read as a whole
+pub modelForm-sound : (s : List ℕ) → AllSound (modelForm s)
+unfolding modelForm lengthRule versionRule limitsRule formulaRule threadRule activityRule maskRule
+modelForm-sound s = simp whole (same _ & same _ & same _ & same _ & same _ & same _ & same _ & tt)
+
+pub choiceForm-sound : (m : Model) (q : List ℕ) → AllSound (choiceForm m q)
+unfolding choiceForm lengthRule versionRule choiceCounts formulaRule rangeRule durationRule
+choiceForm-sound m q = simp whole (same _ & same _ & same _ & same _ & same _ & same _ & tt)
+
+pub planForm-sound : (m : Model) (r : List ℕ) → AllSound (planForm m r)
+unfolding planForm lengthRule versionRule planCounts formulaRule rangeRule wordRule
+planForm-sound m r = simp whole (same _ & same _ & same _ & same _ & same _ & same _ & tt)
+
+pub plainRules-sound : (m : Model) (p : Plan) → AllSound (plainRules m p)
+unfolding plainRules rule21 rule22 rule23 deadlineRule rule24 rule25 rule26 rule27 rule28 rule29
+plainRules-sound m p = simp whole (same _ & same _ & same _ & same _ & same _ & same _ & same _ & same _ & same _ & tt)
+
+pub strictRules-sound : (m : Model) (p : Plan) → AllSound (strictRules m p)
+unfolding strictRules rule30 rule31
+strictRules-sound m p = sound-append (plainRules m p) _ .1 (plainRules-sound m p & simp whole (same _ & same _ & tt))
+
+pub runRules-sound : (m : Model) (q : Choice) → AllSound (runRules m q)
+unfolding runRules owedRule deadlineRule
+runRules-sound m q = simp whole (same _ & same _ & tt)
+
+-- the rules of the two checks and of the run, in the order in which they are tried
+check-sound : (s r : List ℕ) (rules : List Rule) → AllSound rules
+    → AllSound (modelForm s ++ (planForm (model s) r ++ rules))
+check-sound s r rules sound = sound-append (modelForm s) _ .1 (
+  modelForm-sound s,
+  sound-append (planForm (model s) r) _ .1 (planForm-sound (model s) r, sound),
+)
+
+pub plainChecks-sound : (s r : List ℕ) → AllSound (plainChecks s r)
+unfolding plainChecks
+plainChecks-sound s r = check-sound s r _ (plainRules-sound (model s) (plan r))
+
+pub strictChecks-sound : (s r : List ℕ) → AllSound (strictChecks s r)
+unfolding strictChecks
+strictChecks-sound s r = check-sound s r _ (strictRules-sound (model s) (plan r))
+
+pub runChecks-sound : (s q : List ℕ) → AllSound (runChecks s q)
+unfolding runChecks
+runChecks-sound s q = sound-append (modelForm s) _ .1 (modelForm-sound s, choiceForm-sound (model s) q)

@@ -49,16 +49,19 @@ AllHold (r ∷ rs) = Everywhere r × AllHold rs
 abbrev pub Earlier : ℕ → ℕ → ℕ → ℕ → Type 0
 Earlier a b A B = (a < A) ⊎ ((a ≡ A) × (b < B))
 
--- A refusal is the first break of a list of rules: the rules before it hold everywhere, it holds at every earlier
--- place of its own, and fails at its place.
+-- A rule is broken first at a refusal's place: it holds at every earlier place of its own, and fails at that one.
+pub record BrokenAt (rule : Rule) (x : Refusal) : Type 0 where
+  pub numbered : rule .number ≡ x .number
+  pub in-row : x .A < rule .rows
+  pub in-column : x .B < rule .columns
+  pub earlier-places : (a b : ℕ) → a < rule .rows → b < rule .columns → Earlier a b (x .A) (x .B) → rule .Holds a b
+  pub fails : ¬ rule .Holds (x .A) (x .B)
+
+-- A refusal is the first break of a list of rules: the rules before the broken one hold everywhere.
 pub record FirstBroken (rules : List Rule) (x : Refusal) : Type 1 where
   pub before : List Rule
   pub rule : Rule
   pub after : List Rule
   pub splits : rules ≡ before ++ (rule ∷ after)
   pub earlier-rules : AllHold before
-  pub numbered : rule .number ≡ x .number
-  pub in-row : x .A < rule .rows
-  pub in-column : x .B < rule .columns
-  pub earlier-places : (a b : ℕ) → a < rule .rows → b < rule .columns → Earlier a b (x .A) (x .B) → rule .Holds a b
-  pub fails : rule .Holds (x .A) (x .B) → ⊥
+  pub broken : BrokenAt rule x

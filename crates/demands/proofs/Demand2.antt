@@ -1,0 +1,306 @@
+-- Demand 2: a call accepts exactly what keeps the paper's rules, and refuses exactly with the first rule that is broken
+-- and its first place; a pass answers the figures that the rules define, and the run leaves in the lent buffer what the
+-- paper says.
+-- `AllHold rules` says that each rule holds at each of its places, and `FirstBroken rules x` that x is the first break.
+-- Assumes nothing.
+use Prim.Native.Nat.{ℕ, _≤_, _<_}
+use native.Mathlib.Omega.{arith}
+use mathlib.Core.List.{List, _++_}
+use mathlib.Core.Logic.{_↔_, Iff·trans, _⊎_, inl, inr}
+use mathlib.Core.Option.{some, none}
+use mathlib.Core.Path.{_≡_, refl, sym, _∙_, ap}
+use lib.ListN.{length, drop, replicate}
+use borrow.Author.Tests.{lt-ltb, ne-eqb}
+use Rattle.schedule.specs.Rule.{Refusal, firstBreak, AllHold, FirstBroken}
+use Rattle.schedule.specs.Model.{Model, model, modelForm}
+use Rattle.schedule.specs.Choice.{choice, choiceForm}
+use Rattle.schedule.specs.Plan.{Plan, plan, planForm, planBytes}
+use Rattle.schedule.specs.Checks.{
+  plainRules,
+  strictRules,
+  deadlineRule,
+  rule21,
+  rule22,
+  rule23,
+  rule24,
+  rule25,
+  rule26,
+  rule27,
+  rule28,
+  rule29,
+  rule30,
+  rule31,
+}
+use Rattle.schedule.specs.Answers.{
+  accepted,
+  refused,
+  Figures,
+  figures,
+  plainChecks,
+  strictChecks,
+  plainVerdict,
+  strictVerdict,
+  machinePlan,
+  runRules,
+  Written,
+  lengthNeeded,
+  runChecks,
+  outcome,
+  runAnswer,
+  bufferAfter,
+  runBuffer,
+}
+use Rattle.schedule.proofs.FirstBreak.{none-iff, some-iff, append-some, hold-append, hold-or-broken, _&_}
+use Rattle.schedule.proofs.Sound.{
+  modelForm-sound,
+  choiceForm-sound,
+  planForm-sound,
+  plainRules-sound,
+  strictRules-sound,
+  runRules-sound,
+  plainChecks-sound,
+  strictChecks-sound,
+  runChecks-sound,
+}
+use Rattle.schedule.proofs.Verdict.{
+  answer-accepted,
+  answer-refused,
+  verdict-accepted,
+  verdict-refused,
+  plain-past-form,
+  strict-past-form,
+  strict-extends,
+  written,
+  run-outcome,
+  run-verdict,
+}
+use Rattle.schedule.proofs.RuleNumbers.{first-broken-number, input-numbers, run-numbers}
+use Rattle.schedule.specs.Keeps.{KeepsPlain, KeepsStrict}
+
+-- The plain check, of any two byte strings.
+-- It accepts, with these figures, exactly where every form rule of the two records and every rule from 21 to 29 holds,
+-- and these are the plan's figures.
+pub plain-accepted : (s r : List ℕ) (f : Figures)
+    → (plainVerdict s r ≡ accepted f) ↔ (AllHold (plainChecks s r) × (figures (model s) (plan r) ≡ f))
+unfolding plainVerdict
+plain-accepted s r f = answer-accepted (plainChecks s r) (figures (model s) (plan r)) f (plainChecks-sound s r)
+
+-- It refuses with a number, A and B exactly where these are the first break of those rules.
+pub plain-refused : (s r : List ℕ) (x : Refusal) → (plainVerdict s r ≡ refused x) ↔ FirstBroken (plainChecks s r) x
+unfolding plainVerdict
+plain-refused s r x = answer-refused (plainChecks s r) (figures (model s) (plan r)) x (plainChecks-sound s r)
+
+-- The strict check, of any two byte strings.
+-- It accepts, with these figures, exactly where every form rule of the two records and every rule from 21 to 31 holds,
+-- and these are the plan's figures.
+pub strict-accepted : (s r : List ℕ) (f : Figures)
+    → (strictVerdict s r ≡ accepted f) ↔ (AllHold (strictChecks s r) × (figures (model s) (plan r) ≡ f))
+unfolding strictVerdict
+strict-accepted s r f = answer-accepted (strictChecks s r) (figures (model s) (plan r)) f (strictChecks-sound s r)
+
+-- It refuses with a number, A and B exactly where these are the first break of those rules.
+pub strict-refused : (s r : List ℕ) (x : Refusal) → (strictVerdict s r ≡ refused x) ↔ FirstBroken (strictChecks s r) x
+unfolding strictVerdict
+strict-refused s r x = answer-refused (strictChecks s r) (figures (model s) (plan r)) x (strictChecks-sound s r)
+
+-- Of a model that meets its form rules and a plan that is well-formed beside it.
+-- The plain check accepts, with the plan's figures, exactly where rules 21 to 29 hold.
+pub plain-passes-rules : (s r : List ℕ) → AllHold (modelForm s) → AllHold (planForm (model s) r)
+    → (plainVerdict s r ≡ accepted (figures (model s) (plan r))) ↔ AllHold (plainRules (model s) (plan r))
+plain-passes-rules s r hm hp =
+    verdict-accepted _ (plainVerdict s r) _ (plainRules-sound (model s) (plan r)) (plain-past-form s r hm hp)
+
+-- The plain check refuses exactly with the first break of rules 21 to 29.
+pub plain-breaks-rule : (s r : List ℕ) (x : Refusal) → AllHold (modelForm s) → AllHold (planForm (model s) r)
+    → (plainVerdict s r ≡ refused x) ↔ FirstBroken (plainRules (model s) (plan r)) x
+plain-breaks-rule s r x hm hp =
+    verdict-refused _ (plainVerdict s r) _ x (plainRules-sound (model s) (plan r)) (plain-past-form s r hm hp)
+
+-- The strict check accepts, with the plan's figures, exactly where rules 21 to 31 hold.
+pub strict-passes-rules : (s r : List ℕ) → AllHold (modelForm s) → AllHold (planForm (model s) r)
+    → (strictVerdict s r ≡ accepted (figures (model s) (plan r))) ↔ AllHold (strictRules (model s) (plan r))
+strict-passes-rules s r hm hp =
+    verdict-accepted _ (strictVerdict s r) _ (strictRules-sound (model s) (plan r)) (strict-past-form s r hm hp)
+
+-- The strict check refuses exactly with the first break of rules 21 to 31.
+pub strict-breaks-rule : (s r : List ℕ) (x : Refusal) → AllHold (modelForm s) → AllHold (planForm (model s) r)
+    → (strictVerdict s r ≡ refused x) ↔ FirstBroken (strictRules (model s) (plan r)) x
+strict-breaks-rule s r x hm hp =
+    verdict-refused _ (strictVerdict s r) _ x (strictRules-sound (model s) (plan r)) (strict-past-form s r hm hp)
+
+-- Rules 21 to 29 hold, as a list, exactly where the plan keeps them as specs/Keeps writes them out.
+pub plain-keeps : (m : Model) (p : Plan) → AllHold (plainRules m p) ↔ KeepsPlain m p
+unfolding plainRules rule21 rule22 rule23 rule24 rule25 rule26 rule27 rule28 rule29 deadlineRule
+plain-keeps m p = (
+  λ h. record {
+    window = λ a l. h .0 a 0 l (omega arith);
+    duration = λ a l. h .1 .0 a 0 l (omega arith);
+    deadline = λ a l. h .1 .1 .0 a 0 l (omega arith);
+    span = λ a l. h .1 .1 .1 .0 a 0 l (omega arith);
+    temporal = h .1 .1 .1 .1 .0;
+    by-data = h .1 .1 .1 .1 .1 .0;
+    eligible = λ a l. h .1 .1 .1 .1 .1 .1 .0 a 0 l (omega arith);
+    cores = λ t l. h .1 .1 .1 .1 .1 .1 .1 .0 t 0 l (omega arith);
+    priority = h .1 .1 .1 .1 .1 .1 .1 .1 .0;
+  },
+  λ k.
+      (λ a _ l _. k .window a l)
+      & (λ a _ l _. k .duration a l)
+      & (λ a _ l _. k .deadline a l)
+      & (λ a _ l _. k .span a l)
+      & k .temporal
+      & k .by-data
+      & (λ a _ l _. k .eligible a l)
+      & (λ t _ l _. k .cores t l)
+      & k .priority
+      & tt,
+)
+
+-- Rules 21 to 31 hold, as a list, exactly where the plan keeps them as specs/Keeps writes them out.
+pub strict-keeps : (m : Model) (p : Plan) → AllHold (strictRules m p) ↔ KeepsStrict m p
+unfolding strictRules rule30 rule31
+strict-keeps m p = (
+  λ h.
+      let both = hold-append (plainRules m p) _ .0 h in
+      record { plain = plain-keeps m p .0 (both .0); idle = both .1 .0; tie = both .1 .1 .0 },
+  λ k. hold-append (plainRules m p) _ .1 (plain-keeps m p .1 (k .plain) & k .idle & k .tie & tt),
+)
+
+-- So on well-formed records the plain check passes, with the plan's figures, exactly where the plan keeps 21 to 29.
+pub plain-passes : (s r : List ℕ) → AllHold (modelForm s) → AllHold (planForm (model s) r)
+    → (plainVerdict s r ≡ accepted (figures (model s) (plan r))) ↔ KeepsPlain (model s) (plan r)
+plain-passes s r hm hp = Iff·trans (plain-passes-rules s r hm hp) (plain-keeps (model s) (plan r))
+
+-- On well-formed records the strict check passes, with the plan's figures, exactly where the plan keeps 21 to 31.
+pub strict-passes : (s r : List ℕ) → AllHold (modelForm s) → AllHold (planForm (model s) r)
+    → (strictVerdict s r ≡ accepted (figures (model s) (plan r))) ↔ KeepsStrict (model s) (plan r)
+strict-passes s r hm hp = Iff·trans (strict-passes-rules s r hm hp) (strict-keeps (model s) (plan r))
+
+-- What passes the strict check passes the plain check, with the same figures.
+pub strict-then-plain : (s r : List ℕ) (f : Figures) → strictVerdict s r ≡ accepted f → plainVerdict s r ≡ accepted f
+strict-then-plain s r f e =
+    let both = strict-accepted s r f .0 e in
+    let holds = hold-append (plainChecks s r) _ .0 (rw strict-extends at both .0) in
+    plain-accepted s r f .1 (holds .0, both .1)
+
+-- What the plain check refuses, the strict check refuses with the same number, A and B.
+pub plain-then-strict : (s r : List ℕ) (x : Refusal) → plainVerdict s r ≡ refused x → strictVerdict s r ≡ refused x
+plain-then-strict s r x e =
+    let found = some-iff (plainChecks s r) x (plainChecks-sound s r) .1 (plain-refused s r x .0 e) in
+    strict-refused s r x .1 (some-iff (strictChecks s r) x (strictChecks-sound s r) .0
+    (ap firstBreak (strict-extends s r) ∙ append-some (plainChecks s r) _ x found))
+
+-- The form. A model passes its tests exactly where rules 1 to 7 hold.
+pub model-formed : (s : List ℕ) → (firstBreak (modelForm s) ≡ none) ↔ AllHold (modelForm s)
+model-formed s = none-iff (modelForm s) (modelForm-sound s)
+
+-- It is refused exactly with the first break of rules 1 to 7.
+pub model-refused : (s : List ℕ) (x : Refusal) → (firstBreak (modelForm s) ≡ some x) ↔ FirstBroken (modelForm s) x
+model-refused s x = some-iff (modelForm s) x (modelForm-sound s)
+
+-- A choice passes its tests beside a model exactly where rules 8 to 13 hold.
+pub choice-formed : (m : Model) (q : List ℕ) → (firstBreak (choiceForm m q) ≡ none) ↔ AllHold (choiceForm m q)
+choice-formed m q = none-iff (choiceForm m q) (choiceForm-sound m q)
+
+-- It is refused exactly with the first break of rules 8 to 13.
+pub choice-refused : (m : Model) (q : List ℕ) (x : Refusal)
+    → (firstBreak (choiceForm m q) ≡ some x) ↔ FirstBroken (choiceForm m q) x
+choice-refused m q x = some-iff (choiceForm m q) x (choiceForm-sound m q)
+
+-- A plan is well-formed beside a model exactly where rules 8 to 12 and 14 hold.
+pub plan-formed : (m : Model) (r : List ℕ) → (firstBreak (planForm m r) ≡ none) ↔ AllHold (planForm m r)
+plan-formed m r = none-iff (planForm m r) (planForm-sound m r)
+
+-- It is refused exactly with the first break of rules 8 to 12 and 14.
+pub plan-refused : (m : Model) (r : List ℕ) (x : Refusal)
+    → (firstBreak (planForm m r) ≡ some x) ↔ FirstBroken (planForm m r) x
+plan-refused m r x = some-iff (planForm m r) x (planForm-sound m r)
+
+-- The run, of any two byte strings and a buffer with any room.
+-- Its input rules, 1 to 13, all hold, or there is a first break.
+pub run-input : (s q : List ℕ) → AllHold (runChecks s q) ⊎ ((x : Refusal) × FirstBroken (runChecks s q) x)
+run-input s q = hold-or-broken (runChecks s q) (runChecks-sound s q)
+
+-- Where an input rule is broken, it refuses with the first break.
+pub run-input-refused : (s q : List ℕ) (room : ℕ) (x : Refusal)
+    → FirstBroken (runChecks s q) x → runAnswer s q room ≡ refused x
+unfolding runAnswer
+run-input-refused s q room x h = rw (some-iff (runChecks s q) x (runChecks-sound s q) .1 h, runAnswer)
+
+-- Else, where the buffer is shorter than the plan, it refuses with 41 and the length needed.
+pub run-short-buffer : (s q : List ℕ) (room : ℕ) → AllHold (runChecks s q) → room < lengthNeeded (model s)
+    → runAnswer s q room ≡ refused (record { number = 41; A = lengthNeeded (model s); B = 0 })
+unfolding outcome
+run-short-buffer s q room h l = run-outcome s q room h ∙ rw (lt-ltb _ _ l)
+
+-- Else, with room enough, it refuses exactly with the first break of rules 42 and 43 of the machine's run.
+pub run-refused : (s q : List ℕ) (room : ℕ) (x : Refusal) → AllHold (runChecks s q) → lengthNeeded (model s) ≤ room
+    → (runAnswer s q room ≡ refused x) ↔ FirstBroken (runRules (model s) (choice q)) x
+run-refused s q room x h l =
+    verdict-refused _ (runAnswer s q room) _ x (runRules-sound (model s) (choice q)) (run-verdict s q room h l)
+
+-- Else, with room enough, it accepts exactly where 42 and 43 hold, and answers the plan's length and the figures of
+-- the machine's plan.
+pub run-accepted : (s q : List ℕ) (room : ℕ) (w : Written) → AllHold (runChecks s q) → lengthNeeded (model s) ≤ room
+    → (runAnswer s q room ≡ accepted w) ↔ (AllHold (runRules (model s) (choice q)) × (w ≡ record {
+      length = lengthNeeded (model s);
+      figures = figures (model s) (machinePlan (model s) (choice q));
+    }))
+run-accepted s q room w h l =
+    let pass = written (model s) (choice q) in
+    let verdict = answer-accepted (runRules (model s) (choice q)) pass w (runRules-sound (model s) (choice q)) in
+    let e = run-verdict s q room h l in
+    (λ v. let both = verdict .0 (sym e ∙ v) in (both .0, sym (both .1)), λ k. e ∙ verdict .1 (k .0, sym (k .1)))
+
+-- The lent buffer after the run, by what the run answers.
+-- On success it begins with the machine's plan, and the bytes beyond the length answered are what they were.
+pub buffer-accepted : (s q buffer : List ℕ) (w : Written) → runAnswer s q (length buffer) ≡ accepted w
+    → runBuffer s q buffer ≡ planBytes (machinePlan (model s) (choice q)) ++ drop (w .length) buffer
+unfolding runBuffer bufferAfter
+buffer-accepted s q buffer w e = rw e
+
+-- After 42 and 43 as many bytes as the plan is long are 0, and the bytes beyond are what they were.
+pub buffer-zeroed : (s q buffer : List ℕ) (x : Refusal) → runAnswer s q (length buffer) ≡ refused x
+    → (x .number ≡ 42) ⊎ (x .number ≡ 43)
+    → runBuffer s q buffer ≡ replicate (lengthNeeded (model s)) 0 ++ drop (lengthNeeded (model s)) buffer
+unfolding runBuffer bufferAfter
+buffer-zeroed s q buffer x e (inl h) = rw (e, h)
+buffer-zeroed s q buffer x e (inr h) = rw (e, h)
+
+-- After every other refusal no byte has changed.
+pub buffer-unchanged : (s q buffer : List ℕ) (x : Refusal) → runAnswer s q (length buffer) ≡ refused x
+    → ¬ (x .number ≡ 42) → ¬ (x .number ≡ 43) → runBuffer s q buffer ≡ buffer
+unfolding runBuffer bufferAfter
+buffer-unchanged s q buffer x e h k = rw (e, ne-eqb (x .number) 42 h, ne-eqb (x .number) 43 k)
+
+-- The lent buffer after the run, by the rules.
+-- Where an input rule is broken, no byte has changed.
+pub buffer-input-refused : (s q buffer : List ℕ) (x : Refusal)
+    → FirstBroken (runChecks s q) x → runBuffer s q buffer ≡ buffer
+buffer-input-refused s q buffer x h =
+    let low = first-broken-number (λ k. k < 42) (runChecks s q) x (input-numbers s q) h in
+    buffer-unchanged s q buffer x (run-input-refused s q (length buffer) x h)
+    (λ e. omega arith) (λ e. omega arith)
+
+-- Where the buffer is shorter than the plan, no byte has changed.
+pub buffer-short : (s q buffer : List ℕ) → AllHold (runChecks s q) → length buffer < lengthNeeded (model s)
+    → runBuffer s q buffer ≡ buffer
+buffer-short s q buffer h l =
+    buffer-unchanged s q buffer _ (run-short-buffer s q (length buffer) h l)
+    (λ e. omega arith) (λ e. omega arith)
+
+-- Where 42 or 43 is broken, the plan's length of bytes is 0, and the bytes beyond are what they were.
+pub buffer-run-refused : (s q buffer : List ℕ) (x : Refusal)
+    → AllHold (runChecks s q) → lengthNeeded (model s) ≤ length buffer → FirstBroken (runRules (model s) (choice q)) x
+    → runBuffer s q buffer ≡ replicate (lengthNeeded (model s)) 0 ++ drop (lengthNeeded (model s)) buffer
+buffer-run-refused s q buffer x h l broken =
+    buffer-zeroed s q buffer x (run-refused s q (length buffer) x h l .1 broken)
+    (first-broken-number (λ k. (k ≡ 42) ⊎ (k ≡ 43)) _ x (run-numbers (model s) (choice q)) broken)
+
+-- Where 42 and 43 hold, the buffer begins with the machine's plan, and the bytes beyond its length are what they were.
+pub buffer-run-accepted : (s q buffer : List ℕ)
+    → AllHold (runChecks s q) → lengthNeeded (model s) ≤ length buffer → AllHold (runRules (model s) (choice q))
+    → runBuffer s q buffer
+    ≡ planBytes (machinePlan (model s) (choice q)) ++ drop (lengthNeeded (model s)) buffer
+buffer-run-accepted s q buffer h l holds =
+    buffer-accepted s q buffer _ (run-accepted s q (length buffer) _ h l .1 (holds, refl))

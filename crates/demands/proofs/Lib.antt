@@ -1,0 +1,2 @@
+-- The buyer's demands as theorems.
+pub mod Demand2

@@ -1,0 +1,54 @@
+-- Which numbers the refusals of a list of rules can have.
+-- Assumes nothing.
+use Prim.Native.Nat.{ℕ, _<_}
+use native.Mathlib.Omega.{arith}
+use mathlib.Core.List.{List, [], _∷_, _++_}
+use mathlib.Core.Logic.{_⊎_, inl, inr}
+use mathlib.Core.Path.{_≡_, refl, subst}
+use Rattle.schedule.specs.Rule.{Rule, Refusal, FirstBroken}
+use Rattle.schedule.specs.Model.{
+  Model,
+  model,
+  lengthRule,
+  versionRule,
+  formulaRule,
+  limitsRule,
+  threadRule,
+  activityRule,
+  maskRule,
+  modelForm,
+}
+use Rattle.schedule.specs.Choice.{Choice, choiceCounts, rangeRule, durationRule, choiceForm}
+use Rattle.schedule.specs.Checks.{deadlineRule}
+use Rattle.schedule.specs.Answers.{owedRule, runRules, runChecks}
+
+-- every rule's number has a property
+abbrev pub AllNumbers : (ℕ → Type 0) → List Rule → Type 0
+AllNumbers P [] = Unit {0}
+AllNumbers P (r ∷ rs) = P (r .number) × AllNumbers P rs
+
+at-split : (P : ℕ → Type 0) (before : List Rule) (rule : Rule) (after : List Rule)
+    → AllNumbers P (before ++ (rule ∷ after)) → P (rule .number)
+at-split P [] rule after h = h .0
+at-split P (r ∷ before) rule after h = at-split P before rule after (h .1)
+
+numbers-append : (P : ℕ → Type 0) (xs ys : List Rule) → AllNumbers P xs → AllNumbers P ys → AllNumbers P (xs ++ ys)
+numbers-append P [] ys h k = k
+numbers-append P (r ∷ xs) ys h k = (h .0, numbers-append P xs ys (h .1) k)
+
+-- then so has the number of its first break
+pub first-broken-number : (P : ℕ → Type 0) (rules : List Rule) (x : Refusal)
+    → AllNumbers P rules → FirstBroken rules x → P (x .number)
+first-broken-number P rules x numbers h =
+    subst P (h .broken .numbered) (at-split P (h .before) (h .rule) (h .after) (subst (AllNumbers P) (h .splits) numbers))
+
+-- the run's input refusals have numbers below 42
+pub input-numbers : (s q : List ℕ) → AllNumbers (λ k. k < 42) (runChecks s q)
+unfolding runChecks modelForm choiceForm lengthRule versionRule formulaRule limitsRule threadRule activityRule maskRule
+    choiceCounts rangeRule durationRule
+input-numbers s q = numbers-append (λ k. k < 42) (modelForm s) (choiceForm (model s) q) (omega arith) (omega arith)
+
+-- the run's own have 42 or 43
+pub run-numbers : (m : Model) (q : Choice) → AllNumbers (λ k. (k ≡ 42) ⊎ (k ≡ 43)) (runRules m q)
+unfolding runRules owedRule deadlineRule
+run-numbers m q = (inl refl, (inr refl, tt))

@@ -1,0 +1,118 @@
+-- What the verdict on a list of rules says of the rules, and of the rules that stand behind the two records' form.
+-- Assumes nothing.
+use Prim.Native.Nat.{ℕ, _≤_}
+use mathlib.Core.List.{List, [], _∷_, _++_, append-assoc}
+use mathlib.Core.Logic.{_↔_, Iff·and, Iff·trans, Iff·rfl}
+use mathlib.Core.Option.{Option, some, none, Option·some-ne-none, Option·none-ne-some}
+use mathlib.Core.Path.{_≡_, refl, sym, _∙_, ap}
+use native.Mathlib.Omega.{arith}
+use borrow.Author.Tests.{le-ltb}
+use Rattle.schedule.specs.Rule.{Rule, Refusal, firstBreak, AllHold, FirstBroken}
+use Rattle.schedule.specs.Model.{Model, model, modelForm}
+use Rattle.schedule.specs.Choice.{Choice, choice}
+use Rattle.schedule.specs.Plan.{plan, planForm}
+use Rattle.schedule.specs.Checks.{plainRules, strictRules, rule30, rule31}
+use Rattle.schedule.specs.Answers.{
+  Answer,
+  accepted,
+  refused,
+  answer,
+  figures,
+  plainChecks,
+  strictChecks,
+  plainVerdict,
+  strictVerdict,
+  machinePlan,
+  runRules,
+  Written,
+  lengthNeeded,
+  runChecks,
+  outcome,
+  runAnswer,
+}
+use Rattle.schedule.proofs.FirstBreak.{AllSound, none-iff, some-iff, append-none}
+use Rattle.schedule.proofs.Sound.{modelForm-sound, planForm-sound, runChecks-sound}
+
+-- a call answers a pass, or a refusal, and never both
+pub accepted-is-not-refused : {F : Type 0} (f : F) (x : Refusal) → ¬ (accepted f ≡ refused x)
+accepted-is-not-refused f x e = let z : _≡_ {A = ℕ} 0 1 = cc in omega arith
+
+answer-none : {F : Type 0} (o : Option Refusal) (pass f : F) → (answer o pass ≡ accepted f) ↔ ((o ≡ none) × (pass ≡ f))
+unfolding answer
+answer-none none pass f = (λ e. (refl, cc), λ h. ap {B = Answer _} accepted (h .1))
+answer-none (some x) pass f = (
+  λ e. absurd (accepted-is-not-refused f x (sym e)),
+  λ h. absurd (Option·some-ne-none x (h .0)),
+)
+
+answer-some : {F : Type 0} (o : Option Refusal) (pass : F) (x : Refusal) → (answer o pass ≡ refused x) ↔ (o ≡ some x)
+unfolding answer
+answer-some none pass x = (
+  λ e. absurd (accepted-is-not-refused pass x e),
+  λ e. absurd (Option·none-ne-some x e),
+)
+answer-some (some y) pass x = (λ e. cc, λ e. cc)
+
+-- of any list of rules and any pass: accepted exactly where every rule holds, refused exactly with the first broken
+pub answer-accepted : {F : Type 0} (rules : List Rule) (pass f : F) → AllSound rules
+    → (answer (firstBreak rules) pass ≡ accepted f) ↔ (AllHold rules × (pass ≡ f))
+answer-accepted rules pass f s =
+    Iff·trans (answer-none (firstBreak rules) pass f) (Iff·and (none-iff rules s) Iff·rfl)
+
+pub answer-refused : {F : Type 0} (rules : List Rule) (pass : F) (x : Refusal) → AllSound rules
+    → (answer (firstBreak rules) pass ≡ refused x) ↔ FirstBroken rules x
+answer-refused rules pass x s = Iff·trans (answer-some (firstBreak rules) pass x) (some-iff rules x s)
+
+-- behind two records of right form, only the rules that follow count
+pub past-form : (s r : List ℕ) (rules : List Rule) → AllHold (modelForm s) → AllHold (planForm (model s) r)
+    → firstBreak (modelForm s ++ (planForm (model s) r ++ rules)) ≡ firstBreak rules
+past-form s r rules hm hp =
+    append-none (modelForm s) _ (none-iff (modelForm s) (modelForm-sound s) .1 hm)
+    ∙ append-none (planForm (model s) r) rules (none-iff (planForm (model s) r) (planForm-sound (model s) r) .1 hp)
+
+pub plain-past-form : (s r : List ℕ) → AllHold (modelForm s) → AllHold (planForm (model s) r)
+    → plainVerdict s r ≡ answer (firstBreak (plainRules (model s) (plan r))) (figures (model s) (plan r))
+unfolding plainVerdict plainChecks
+plain-past-form s r hm hp = ap (λ o. answer o (figures (model s) (plan r))) (past-form s r _ hm hp)
+
+pub strict-past-form : (s r : List ℕ) → AllHold (modelForm s) → AllHold (planForm (model s) r)
+    → strictVerdict s r ≡ answer (firstBreak (strictRules (model s) (plan r))) (figures (model s) (plan r))
+unfolding strictVerdict strictChecks
+strict-past-form s r hm hp = ap (λ o. answer o (figures (model s) (plan r))) (past-form s r _ hm hp)
+
+-- a verdict that comes of a list of rules alone accepts exactly where they hold, and refuses with the first broken
+pub verdict-accepted : {F : Type 0} (rules : List Rule) (verdict : Answer F) (pass : F) → AllSound rules
+    → verdict ≡ answer (firstBreak rules) pass → (verdict ≡ accepted pass) ↔ AllHold rules
+verdict-accepted rules verdict pass s e = (
+  λ v. answer-accepted rules pass pass s .0 (sym e ∙ v) .0,
+  λ h. e ∙ answer-accepted rules pass pass s .1 (h, refl),
+)
+
+pub verdict-refused : {F : Type 0} (rules : List Rule) (verdict : Answer F) (pass : F) (x : Refusal) → AllSound rules
+    → verdict ≡ answer (firstBreak rules) pass → (verdict ≡ refused x) ↔ FirstBroken rules x
+verdict-refused rules verdict pass x s e = (
+  λ v. answer-refused rules pass x s .0 (sym e ∙ v),
+  λ h. e ∙ answer-refused rules pass x s .1 h,
+)
+
+-- the strict check's rules are the plain check's and two more
+pub strict-extends : (s r : List ℕ)
+    → strictChecks s r ≡ plainChecks s r ++ (rule30 (model s) (plan r) ∷ rule31 (model s) (plan r) ∷ [])
+unfolding strictChecks plainChecks strictRules
+strict-extends s r = simp append-assoc
+
+-- what a successful run answers
+abbrev pub written : Model → Choice → Written
+written m q = record { length = lengthNeeded m; figures = figures m (machinePlan m q) }
+
+-- past the input rules, the run's answer is its outcome
+pub run-outcome : (s q : List ℕ) (room : ℕ) → AllHold (runChecks s q)
+    → runAnswer s q room ≡ outcome (model s) (choice q) room
+unfolding runAnswer
+run-outcome s q room h = rw (none-iff (runChecks s q) (runChecks-sound s q) .1 h, runAnswer)
+
+-- with room enough, that is the verdict of rules 42 and 43
+pub run-verdict : (s q : List ℕ) (room : ℕ) → AllHold (runChecks s q) → lengthNeeded (model s) ≤ room
+    → runAnswer s q room ≡ answer (firstBreak (runRules (model s) (choice q))) (written (model s) (choice q))
+unfolding outcome
+run-verdict s q room h l = run-outcome s q room h ∙ rw (le-ltb room (lengthNeeded (model s)) l)
