@@ -62,7 +62,7 @@ use Rattle.schedule.proofs.Sound.{
   strictChecks-sound,
   runChecks-sound,
 }
-use Rattle.schedule.proofs.Verdict.{
+use Rattle.schedule.proofs.VerdictLaws.{
   answer-accepted,
   answer-refused,
   verdict-accepted,

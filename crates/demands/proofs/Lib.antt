@@ -1,2 +1,3 @@
--- The buyer's demands as theorems.
 pub mod Demand2
+pub mod Forms
+pub mod Demand3

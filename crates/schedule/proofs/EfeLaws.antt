@@ -10,21 +10,11 @@ use mathlib.Core.Path.{_≡_, refl, sym, subst, ap, ap₂, _∙_}
 use lib.Dec.{T}
 use lib.ListN.{length, getD, length-append, List·getD-append}
 use lib.Seq.{getD-at}
-use Rattle.schedule.specs.Bounded.{greatest}
 use Rattle.schedule.specs.Model.{Model, temporally, byData}
 use Rattle.schedule.specs.Plan.{Plan}
 use Rattle.schedule.specs.Checks.{countOf, efeFrom, efes, efe}
 use Rattle.schedule.proofs.Tests.{below-suc}
-
-pub greatest-ext : (n : ℕ) (f g : ℕ → ℕ) → ((i : ℕ) → i < n → f i ≡ g i) → greatest n f ≡ greatest n g
-unfolding greatest
-greatest-ext zero f g h = refl
-greatest-ext (suc n) f g h = ap₂ max (greatest-ext n f g (λ i l. h i (omega arith))) (h n (omega arith))
-
-pub greatest-bound : (n : ℕ) (f : ℕ → ℕ) (x : ℕ) → ((i : ℕ) → i < n → f i ≤ x) → greatest n f ≤ x
-unfolding greatest
-greatest-bound zero f x h = omega arith
-greatest-bound (suc n) f x h = omega (arith, greatest-bound n f x (λ i l. h i (omega arith)), h n (omega arith))
+use Rattle.schedule.proofs.Sums.{greatest-ext, greatest-bound}
 
 -- "b must be below the row's own number"
 pub record Ordered (m : Model) : Type 0 where

@@ -212,5 +212,5 @@ module _ (m : Model) (release duration : ℕ → ℕ) (p : Plan) (made : Made m 
           w .clear (subst T (sym (active-chosen t b h lb))
           (chosen-all m (ready m release t (at m release duration t)) (omega (arith, ones-chosen t h)) b lb
           (ready-sound m release t (at m release duration t) b .1 (waits-ready t b h lb w))));
-      tie = λ t b h lb _ w a la x less e. in-order t b a h lb la w x (inr (e, less))
+      tie = λ t b h lb w _ a la x less e. in-order t b a h lb la w x (inr (e, less))
   }

@@ -133,8 +133,8 @@ module _ (m : Model) (release duration : ℕ → ℕ) (p : Plan) (w : Beside m r
         in-order = λ all b a lb la r x y. ⊎-elim
             (λ h. omega (arith, k .plain .priority t b in-time lb (ones-active ∙ all)
                 (ready-waits b lb (ready-sound m release t s b .0 r) x) a la y))
-            (λ h. k .tie t b in-time lb (ones-active ∙ all)
-                (ready-waits b lb (ready-sound m release t s b .0 r) x) a la y (h .1) (h .0))
+            (λ h. k .tie t b in-time lb (ready-waits b lb (ready-sound m release t s b .0 r) x) (ones-active ∙ all)
+                a la y (h .1) (h .0))
     }
 
     -- the plan's tick is the machine's

@@ -152,9 +152,9 @@ rule30 m p = record {
 unfoldable pub rule31 : Model → Plan → Rule
 rule31 m p = record {
     number = 31; rows = m .horizon; columns = m .activities;
-    Holds = λ t b. ones (p .word t) ≡ m .cores → Waiting m p t b
+    Holds = λ t b. Waiting m p t b → ones (p .word t) ≡ m .cores
         → (a : ℕ) → a < m .activities → T (active p t a) → b < a → ¬ (priorityOf m b ≡ priorityOf m a);
-    test = λ t b. eqb (ones (p .word t)) (m .cores) ⇒ waits m p t b
+    test = λ t b. waits m p t b ⇒ eqb (ones (p .word t)) (m .cores)
         ⇒ all (m .activities) (λ a. active p t a ⇒ ltb b a ⇒ not (eqb (priorityOf m b) (priorityOf m a)))
 }
 

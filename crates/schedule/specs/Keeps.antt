@@ -37,5 +37,5 @@ pub record KeepsStrict (m : Model) (p : Plan) : Type 0 where
   -- 30 with fewer than c ones, nothing waits
   pub idle : (t b : ℕ) → t < m .horizon → b < m .activities → ones (p .word t) < m .cores → ¬ Waiting m p t b
   -- 31 with exactly c ones, no waiting activity has the priority of an active activity with a larger number
-  pub tie : (t b : ℕ) → t < m .horizon → b < m .activities → ones (p .word t) ≡ m .cores → Waiting m p t b
+  pub tie : (t b : ℕ) → t < m .horizon → b < m .activities → Waiting m p t b → ones (p .word t) ≡ m .cores
       → (a : ℕ) → a < m .activities → T (active p t a) → b < a → ¬ (priorityOf m b ≡ priorityOf m a)

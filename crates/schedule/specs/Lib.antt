@@ -9,3 +9,10 @@ pub mod Machine
 pub mod Checks
 pub mod Keeps
 pub mod Answers
+pub mod Streams
+pub mod Lines
+pub mod Numbers
+pub mod Cases
+pub mod Starred
+pub mod Mistakes
+pub mod Listing

@@ -1,0 +1,118 @@
+// The grid checker: what its calls answer. specs/Numbers.antt gives the paper's number and values for each case.
+
+// "A thread number and an activity number are separate countings": priority is looked up by a Thread only.
+pub struct Thread(pub u8);
+
+pub struct Activity(pub u8);
+
+// "A and B are the place", 0 where none is named.
+pub struct Place {
+    pub a: u32,
+    pub b: u32,
+}
+
+// Refusals 1 to 14, "From the input", in the paper's order.
+pub enum FormRefusal {
+    // 1 "model under 10 bytes, or its length differs from the bytes given"
+    ModelSize,
+    // 2 "model version"
+    ModelVersion,
+    // 3 "c, n, m or H outside its limits"
+    ModelLimits,
+    // 4 "model length differs from its formula"
+    ModelFormula,
+    // 5 "thread row A: a least above its most, or least period 0 with most above 0"
+    ThreadRow,
+    // 6 "activity row A: thread ≥ n, least duration 0, or least above most"
+    ActivityRow,
+    // 7 "row A: a bit at or above its own number in either mask"
+    MaskRow,
+    // 8 "second record under 7 bytes (choice) or 9 (plan), or length differs from the bytes given"
+    SecondSize,
+    // 9 "its version"
+    SecondVersion,
+    // 10 "its n or m, or a plan's H, differs from the model's"
+    SecondCounts,
+    // 11 "its length differs from its formula"
+    SecondFormula,
+    // 12 "thread A: release or period outside the model's range"
+    ThreadChoice,
+    // 13 "choice only, activity A: duration outside its range"
+    DurationChoice,
+    // 14 "plan only, tick A: a bit at or above m"
+    WordBits,
+}
+
+// Refusals 21 to 31, the rules of "The checks".
+pub enum RuleRefusal {
+    // 21 "window: start < end ≤ H, bits set at start and end − 1, none outside"
+    Window,
+    // 22 "count within the duration range"
+    Count,
+    // 23 "a thread with a period has end ≤ that period"
+    Deadline,
+    // 24 "end − start ≥ count"
+    Span,
+    // 25 "start ≥ end + delay of each temporal predecessor B"
+    Temporal,
+    // 26 "start ≥ end of each data predecessor B"
+    Data,
+    // 27 "start ≥ efe"
+    Eligible,
+    // 28 "at most c ones in the word"
+    Cores,
+    // 29 "with exactly c ones, no waiting B has a priority above an active one's"
+    Preemption,
+    // 30 "with fewer than c ones, nothing waits"
+    Idle,
+    // 31 "with exactly c ones, no waiting B has the priority of an active activity with a larger number"
+    Tie,
+}
+
+// Refusals 41 to 43, "From the state of the buffer or run".
+pub enum RunRefusal {
+    // 41 "buffer shorter than the plan; A is the length needed"
+    Room,
+    // 42 "something owed after tick H − 1; A the lowest such activity"
+    Owed,
+    // 43 "all ended, an end breaks rule 23; A the lowest"
+    Late,
+}
+
+// "A refusal answers its number, A and B"
+pub enum Refusal {
+    Form(FormRefusal, Place),
+    Rule(RuleRefusal, Place),
+    Run(RunRefusal, Place),
+}
+
+// "A pass answers usage (all ones), c times H, makespan"
+pub struct Figures {
+    pub usage: u32,
+    pub capacity: u32,
+    pub makespan: u32,
+}
+
+// What a check answers.
+pub enum Verdict {
+    Accepted(Figures),
+    Refused(Refusal),
+}
+
+// "It answers the length, usage, c times H, and makespan"
+pub struct Written {
+    pub length: u32,
+    pub figures: Figures,
+}
+
+// What the run answers.
+pub enum RunVerdict {
+    Accepted(Written),
+    Refused(Refusal),
+}
+
+// What a held view gives: "the word at a tick, or past for a tick ≥ H"
+pub enum WordAt {
+    Word(u32),
+    Past,
+}

@@ -1,0 +1,64 @@
+-- What a model that meets its form rules, and a choice that passes its tests, give the theorem of demand 3.
+-- Assumes nothing.
+use Prim.Native.Nat.{ℕ, _+_, _*_, _≤_, _<_}
+use native.Mathlib.Decide.{decLt}
+use native.Mathlib.Omega.{arith}
+use mathlib.Core.List.{List}
+use mathlib.Core.Path.{_≡_}
+use Rattle.schedule.specs.Fields.{field, Bytes}
+use Rattle.schedule.specs.Rule.{AllHold}
+use Rattle.schedule.specs.Model.{Model, model, modelForm, limitsRule, activityRule, maskRule, Within}
+use Rattle.schedule.specs.Choice.{Choice, choice, choiceForm, rangeRule, durationRule}
+use Rattle.schedule.proofs.EfeLaws.{Ordered}
+use Rattle.schedule.proofs.FieldLaws.{field-lt}
+
+-- rules 3, 6 and 7
+pub record Formed (m : Model) : Type 0 where
+  pub threads : Within 1 8 (m .threads)
+  pub activities : Within 1 32 (m .activities)
+  pub horizon : Within 1 4096 (m .horizon)
+  pub owner : (a : ℕ) → a < m .activities → m .thread a < m .threads
+  pub lasting : (a : ℕ) → a < m .activities → 1 ≤ m .least-duration a
+  pub ordered : Ordered m
+
+pub model-says : (s : List ℕ) → AllHold (modelForm s) → Formed (model s)
+unfolding modelForm limitsRule activityRule maskRule
+model-says s h =
+    let limits = h .1 .1 .0 0 0 (omega arith) (omega arith) in
+    let rows = h .1 .1 .1 .1 .1 .0 in
+    let masks = h .1 .1 .1 .1 .1 .1 .0 in
+    record {
+      threads = limits .0 .1;
+      activities = limits .1 .0;
+      horizon = limits .1 .1;
+      owner = λ a l. rows a 0 l (omega arith) .0 .0;
+      lasting = λ a l. rows a 0 l (omega arith) .0 .1;
+      ordered = record {
+        temporal = λ a b la lb x. elim (decLt b a) [
+            yes y ↦ y
+          | no y ↦ absurd (masks a 0 la (omega arith) b (omega (arith, limits .1 .0 .1)) (omega arith) .0 x)
+          ];
+        by-data = λ a b la lb x. elim (decLt b a) [
+            yes y ↦ y
+          | no y ↦ absurd (masks a 0 la (omega arith) b (omega (arith, limits .1 .0 .1)) (omega arith) .1 x)
+          ];
+      };
+    }
+
+-- rules 12 and 13, and that the choices are fields of two bytes
+pub record Chosen (m : Model) (q : Choice) : Type 0 where
+  pub in-range : (j : ℕ) → j < m .threads
+      → Within (m .least-release j) (m .most-release j) (q .release j)
+      × Within (m .least-period j) (m .most-period j) (q .period j)
+  pub duration : (a : ℕ) → a < m .activities → Within (m .least-duration a) (m .most-duration a) (q .duration a)
+  pub release-lt : (j : ℕ) → q .release j < 65536
+  pub period-lt : (j : ℕ) → q .period j < 65536
+
+pub choice-says : (m : Model) (q : List ℕ) → Bytes q → AllHold (choiceForm m q) → Chosen m (choice q)
+unfolding choiceForm rangeRule durationRule choice
+choice-says m q b h = record {
+  in-range = λ j l. h .1 .1 .1 .1 .0 j 0 l (omega arith);
+  duration = λ a l. h .1 .1 .1 .1 .1 .0 a 0 l (omega arith);
+  release-lt = λ j. field-lt q b (7 + 4 * j) 2;
+  period-lt = λ j. field-lt q b (7 + 4 * j + 2) 2;
+}

@@ -1,0 +1,138 @@
+-- Equal numbers and values mean equal answers: each map of specs/Numbers.antt is undone by a map back.
+-- Assumes nothing.
+use Prim.Native.Nat.{ℕ, _-_}
+use mathlib.Core.Bool.{cond}
+use mathlib.Core.List.{List, [], _∷_}
+use mathlib.Core.Path.{_≡_, refl, sym, ap, _∙_}
+use lib.Dec.{ltb}
+use lib.ListN.{getD}
+use Rattle.schedule.specs.declared.Place.{Place}
+use Rattle.schedule.specs.declared.FormRefusal.{FormRefusal}
+use Rattle.schedule.specs.declared.RuleRefusal.{RuleRefusal}
+use Rattle.schedule.specs.declared.RunRefusal.{RunRefusal}
+use Rattle.schedule.specs.declared.Refusal.{Refusal}
+use Rattle.schedule.specs.declared.Verdict.{Verdict}
+use Rattle.schedule.specs.declared.RunVerdict.{RunVerdict}
+use Rattle.schedule.specs.declared.WordAt.{WordAt}
+use Rattle.schedule.specs.declared.FormRefusal.the-variants.{ModelSize, ModelVersion, ModelLimits, ModelFormula}
+use Rattle.schedule.specs.declared.FormRefusal.the-variants.{ThreadRow, ActivityRow, MaskRow, SecondSize}
+use Rattle.schedule.specs.declared.FormRefusal.the-variants.{SecondVersion, SecondCounts, SecondFormula}
+use Rattle.schedule.specs.declared.FormRefusal.the-variants.{ThreadChoice, DurationChoice, WordBits}
+use Rattle.schedule.specs.declared.RuleRefusal.the-variants.{Window, Count, Deadline, Span, Temporal, Data}
+use Rattle.schedule.specs.declared.RuleRefusal.the-variants.{Eligible, Cores, Preemption, Idle, Tie}
+use Rattle.schedule.specs.declared.RunRefusal.the-variants.{Room, Owed, Late}
+use Rattle.schedule.specs.Rule
+use Rattle.schedule.specs.Answers
+use Rattle.schedule.specs.Answers.{Answer, accepted, refused}
+use Rattle.schedule.specs.Streams.{WordOrPast, word, past}
+use Rattle.schedule.specs.Numbers.{formNumber, ruleNumber, runNumber, refusalNumbers, verdictNumbers}
+use Rattle.schedule.specs.Numbers.{runNumbers, wordNumbers}
+
+-- a map that another undoes takes no two things to one
+undone-injective : {X Y : Type 0} (f : X → Y) (g : Y → X) → ((x : X) → g (f x) ≡ x)
+    → (x y : X) → f x ≡ f y → x ≡ y
+undone-injective f g undone x y e = sym (undone x) ∙ ap g e ∙ undone y
+
+-- the cases in the order of their numbers
+abbrev forms : List FormRefusal
+forms =
+    ModelSize ∷ ModelVersion ∷ ModelLimits ∷ ModelFormula ∷ ThreadRow ∷ ActivityRow ∷ MaskRow ∷ SecondSize
+    ∷ SecondVersion ∷ SecondCounts ∷ SecondFormula ∷ ThreadChoice ∷ DurationChoice ∷ WordBits ∷ []
+
+abbrev rules : List RuleRefusal
+rules =
+    Window ∷ Count ∷ Deadline ∷ Span ∷ Temporal ∷ Data ∷ Eligible ∷ Cores ∷ Preemption ∷ Idle ∷ Tie ∷ []
+
+abbrev runs : List RunRefusal
+runs = Room ∷ Owed ∷ Late ∷ []
+
+-- a refusal from its number and place: 1 to 14 are of form, 21 to 31 rules, 41 to 43 of the run
+abbrev refusalOf : Rule.Refusal → Refusal
+refusalOf x =
+    let at : Place = record { a = x .A; b = x .B } in
+    cond (ltb (x .number) 21) (Refusal.Form (getD forms (x .number - 1) ModelSize) at)
+    (cond (ltb (x .number) 41) (Refusal.Rule (getD rules (x .number - 21) Window) at)
+    (Refusal.Run (getD runs (x .number - 41) Room) at))
+
+form-undone : (why : FormRefusal) (at : Place) → refusalOf (refusalNumbers (Refusal.Form why at)) ≡ Refusal.Form why at
+form-undone ModelSize at = refl
+form-undone ModelVersion at = refl
+form-undone ModelLimits at = refl
+form-undone ModelFormula at = refl
+form-undone ThreadRow at = refl
+form-undone ActivityRow at = refl
+form-undone MaskRow at = refl
+form-undone SecondSize at = refl
+form-undone SecondVersion at = refl
+form-undone SecondCounts at = refl
+form-undone SecondFormula at = refl
+form-undone ThreadChoice at = refl
+form-undone DurationChoice at = refl
+form-undone WordBits at = refl
+
+rule-undone : (why : RuleRefusal) (at : Place) → refusalOf (refusalNumbers (Refusal.Rule why at)) ≡ Refusal.Rule why at
+rule-undone Window at = refl
+rule-undone Count at = refl
+rule-undone Deadline at = refl
+rule-undone Span at = refl
+rule-undone Temporal at = refl
+rule-undone Data at = refl
+rule-undone Eligible at = refl
+rule-undone Cores at = refl
+rule-undone Preemption at = refl
+rule-undone Idle at = refl
+rule-undone Tie at = refl
+
+run-undone : (why : RunRefusal) (at : Place) → refusalOf (refusalNumbers (Refusal.Run why at)) ≡ Refusal.Run why at
+run-undone Room at = refl
+run-undone Owed at = refl
+run-undone Late at = refl
+
+refusal-undone : (x : Refusal) → refusalOf (refusalNumbers x) ≡ x
+refusal-undone (Refusal.Form why at) = form-undone why at
+refusal-undone (Refusal.Rule why at) = rule-undone why at
+refusal-undone (Refusal.Run why at) = run-undone why at
+
+abbrev verdictOf : Answer Answers.Figures → Verdict
+verdictOf (accepted f) = Verdict.Accepted (record { usage = f .usage; capacity = f .capacity; makespan = f .makespan })
+verdictOf (refused x) = Verdict.Refused (refusalOf x)
+
+verdict-undone : (v : Verdict) → verdictOf (verdictNumbers v) ≡ v
+verdict-undone (Verdict.Accepted f) = refl
+verdict-undone (Verdict.Refused x) = ap Verdict.Refused (refusal-undone x)
+
+abbrev runVerdictOf : Answer Answers.Written → RunVerdict
+runVerdictOf (accepted w) = RunVerdict.Accepted (record {
+  length = w .length;
+  figures = record {
+    usage = w .figures .usage;
+    capacity = w .figures .capacity;
+    makespan = w .figures .makespan;
+  };
+})
+runVerdictOf (refused x) = RunVerdict.Refused (refusalOf x)
+
+run-verdict-undone : (v : RunVerdict) → runVerdictOf (runNumbers v) ≡ v
+run-verdict-undone (RunVerdict.Accepted w) = refl
+run-verdict-undone (RunVerdict.Refused x) = ap RunVerdict.Refused (refusal-undone x)
+
+abbrev wordAtOf : WordOrPast → WordAt
+wordAtOf (word w) = WordAt.Word w
+wordAtOf past = WordAt.Past
+
+word-undone : (w : WordAt) → wordAtOf (wordNumbers w) ≡ w
+word-undone (WordAt.Word w) = refl
+word-undone WordAt.Past = refl
+
+-- equal numbers and values mean equal answers
+pub refusal-injective : (x y : Refusal) → refusalNumbers x ≡ refusalNumbers y → x ≡ y
+refusal-injective = undone-injective refusalNumbers refusalOf refusal-undone
+
+pub verdict-injective : (x y : Verdict) → verdictNumbers x ≡ verdictNumbers y → x ≡ y
+verdict-injective = undone-injective verdictNumbers verdictOf verdict-undone
+
+pub run-verdict-injective : (x y : RunVerdict) → runNumbers x ≡ runNumbers y → x ≡ y
+run-verdict-injective = undone-injective runNumbers runVerdictOf run-verdict-undone
+
+pub word-injective : (x y : WordAt) → wordNumbers x ≡ wordNumbers y → x ≡ y
+word-injective = undone-injective wordNumbers wordAtOf word-undone

@@ -1,0 +1,43 @@
+-- Sums and extremes depend on the values below their bound alone, and so do a plan's figures on its words, ends and
+-- releases.
+-- Assumes nothing.
+use Prim.Native.Nat.{ℕ, zero, suc, _+_, _-_, _*_, _≤_, _<_, max, min}
+use native.Mathlib.Omega.{arith}
+use mathlib.Core.Path.{_≡_, refl, ap, ap₂}
+use Rattle.schedule.specs.Bounded.{total, greatest, least, ones}
+use Rattle.schedule.specs.Model.{Model}
+use Rattle.schedule.specs.Plan.{Plan}
+use Rattle.schedule.specs.Answers.{Figures, figures}
+
+pub greatest-ext : (n : ℕ) (f g : ℕ → ℕ) → ((i : ℕ) → i < n → f i ≡ g i) → greatest n f ≡ greatest n g
+unfolding greatest
+greatest-ext zero f g h = refl
+greatest-ext (suc n) f g h = ap₂ max (greatest-ext n f g (λ i l. h i (omega arith))) (h n (omega arith))
+
+pub greatest-bound : (n : ℕ) (f : ℕ → ℕ) (x : ℕ) → ((i : ℕ) → i < n → f i ≤ x) → greatest n f ≤ x
+unfolding greatest
+greatest-bound zero f x h = omega arith
+greatest-bound (suc n) f x h = omega (arith, greatest-bound n f x (λ i l. h i (omega arith)), h n (omega arith))
+
+pub total-ext : (n : ℕ) (f g : ℕ → ℕ) → ((i : ℕ) → i < n → f i ≡ g i) → total n f ≡ total n g
+unfolding total
+total-ext zero f g h = refl
+total-ext (suc n) f g h = ap₂ _+_ (total-ext n f g (λ i l. h i (omega arith))) (h n (omega arith))
+
+pub least-ext : (n : ℕ) (f g : ℕ → ℕ) → ((i : ℕ) → i < n → f i ≡ g i) → least n f ≡ least n g
+unfolding least
+least-ext zero f g h = refl
+least-ext (suc zero) f g h = h 0 (omega arith)
+least-ext (suc (suc n)) f g h = ap₂ min (least-ext (suc n) f g (λ i l. h i (omega arith))) (h (suc n) (omega arith))
+
+pub figures-ext : (m : Model) (p r : Plan)
+    → ((t : ℕ) → t < m .horizon → p .word t ≡ r .word t)
+    → ((a : ℕ) → a < m .activities → p .end a ≡ r .end a)
+    → ((j : ℕ) → j < m .threads → p .release j ≡ r .release j)
+    → figures m p ≡ figures m r
+unfolding figures
+figures-ext m p r words ends releases =
+    let u = total-ext (m .horizon) (λ t. ones (p .word t)) (λ t. ones (r .word t)) (λ t l. ap ones (words t l)) in
+    let e = greatest-ext (m .activities) (p .end) (r .end) ends in
+    let f = least-ext (m .threads) (p .release) (r .release) releases in
+    λ i. record { usage = u i; capacity = m .cores * m .horizon; makespan = e i - f i }

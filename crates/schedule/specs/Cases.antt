@@ -1,0 +1,101 @@
+-- The form of a table of cases: what is asked of the rules, and what they are to say.
+-- Assumes nothing.
+use Prim.Native.Nat.{ℕ}
+use mathlib.Core.List.{List, map}
+use mathlib.Core.Path.{_≡_}
+use lib.ListN.{replicate}
+use lib.Seq.{sets}
+use Rattle.schedule.specs.Bounded
+use Rattle.schedule.specs.Fields
+use Rattle.schedule.specs.Rule
+use Rattle.schedule.specs.Model
+use Rattle.schedule.specs.Choice
+use Rattle.schedule.specs.Plan
+use Rattle.schedule.specs.Machine
+use Rattle.schedule.specs.Checks
+use Rattle.schedule.specs.Answers
+use Rattle.schedule.specs.Streams
+use Rattle.schedule.specs.Lines
+use Rattle.schedule.specs.Bounded.{table}
+use Rattle.schedule.specs.Model.{model}
+use Rattle.schedule.specs.Choice.{choice}
+use Rattle.schedule.specs.Plan.{plan}
+use Rattle.schedule.specs.Checks.{efe}
+use Rattle.schedule.specs.Answers.{Answer, accepted, refused, Figures, Written}
+use Rattle.schedule.specs.Answers.{plainVerdict, strictVerdict, machinePlan, lengthNeeded, runAnswer, runBuffer}
+use Rattle.schedule.specs.Lines.{runRoom}
+
+-- bytes with others in place from a position on
+abbrev pub patch : ℕ → List ℕ → List ℕ → List ℕ
+patch at new s = sets s at new
+
+-- a verdict as the paper writes it: "accepted 5 8 6", and "25 2 1" for a refusal
+abbrev pub accepts : ℕ → ℕ → ℕ → Answer Figures
+accepts u c h = accepted (record { usage = u; capacity = c; makespan = h })
+
+abbrev pub refuses : ℕ → ℕ → ℕ → Answer Figures
+refuses number a b = refused (record { number = number; A = a; B = b })
+
+-- What is asked: both checks of a model's and a plan's bytes, or the plan's efes; the run of a model's and a choice's
+-- bytes, or the machine's words, starts or ends, or the bytes that it writes into a buffer of the plan's length.
+pub data Question : Type 0 where
+  check : List ℕ → List ℕ → Question
+  efes : List ℕ → List ℕ → Question
+  run : List ℕ → List ℕ → Question
+  words : List ℕ → List ℕ → Question
+  starts : List ℕ → List ℕ → Question
+  ends : List ℕ → List ℕ → Question
+  writes : List ℕ → List ℕ → Question
+
+-- What is said: the plain and the strict verdict, the run's, or numbers in order.
+pub data Saying : Type 0 where
+  verdicts : Answer Figures → Answer Figures → Saying
+  verdict : Answer Figures → Saying
+  numbers : List ℕ → Saying
+
+-- the run's verdict without the plan's length, as gridrun prints it
+unfoldable pub printed : Answer Written → Answer Figures
+printed (accepted w) = accepted (w .figures)
+printed (refused x) = refused x
+
+-- what the rules say
+unfoldable pub said : Question → Saying
+said (check s r) = verdicts (plainVerdict s r) (strictVerdict s r)
+said (efes s r) = numbers (table (model s .activities) (efe (model s) (plan r)))
+said (run s q) = verdict (printed (runAnswer s q runRoom))
+said (words s q) = numbers (table (model s .horizon) (machinePlan (model s) (choice q) .word))
+said (starts s q) = numbers (table (model s .activities) (machinePlan (model s) (choice q) .start))
+said (ends s q) = numbers (table (model s .activities) (machinePlan (model s) (choice q) .end))
+said (writes s q) = numbers (runBuffer s q (replicate (lengthNeeded (model s)) 255))
+
+pub record Case : Type 0 where
+  pub asked : Question
+  pub expected : Saying
+
+-- the rules say what is expected, in every case of a table
+abbrev pub Right : List Case → Type 0
+Right cases = map (λ c. said (c .asked)) cases ≡ map (λ c. c .expected) cases
+
+-- every definition of the rules, of the lines and of this file, to be unfolded together where a table is computed
+unfoldable pub every : Unit {0}
+unfolding Bounded.all Bounded.count Bounded.total Bounded.greatest Bounded.least Bounded.lowest Bounded.first
+    Bounded.table Bounded.rows Bounded.bit Bounded.wordOf Bounded.ones
+    Fields.field Fields.bytes
+    Rule.break Rule.firstBreak
+    Model.model Model.lengthRule Model.versionRule Model.formulaRule Model.limitsRule Model.threadRule
+    Model.activityRule Model.maskRule Model.modelForm
+    Choice.choice Choice.choiceCounts Choice.rangeRule Choice.durationRule Choice.choiceForm
+    Plan.plan Plan.planBytes Plan.planCounts Plan.wordRule Plan.planForm
+    Machine.endedBy Machine.ready Machine.before Machine.rank Machine.chosen Machine.wordAt Machine.initial Machine.step
+    Machine.stateAt Machine.machineWord Machine.machineStart Machine.machineEnd Machine.machineOwes
+    Checks.countOf Checks.efeFrom Checks.efes Checks.efe Checks.waits Checks.window Checks.deadlineRule
+    Checks.rule21 Checks.rule22 Checks.rule23 Checks.rule24 Checks.rule25 Checks.rule26 Checks.rule27 Checks.rule28
+    Checks.rule29 Checks.rule30 Checks.rule31 Checks.plainRules Checks.strictRules
+    Answers.answer Answers.figures Answers.plainChecks Answers.strictChecks Answers.plainVerdict Answers.strictVerdict
+    Answers.machinePlan Answers.owedRule Answers.runRules Answers.lengthNeeded Answers.runChecks Answers.outcome
+    Answers.runAnswer Answers.bufferAfter Answers.runBuffer
+    Streams.taken Streams.splits Streams.firstRecord Streams.secondRecord Streams.viewRefusal Streams.viewWord
+    Lines.digits Lines.decimal Lines.hexDigit Lines.hex Lines.three Lines.shown Lines.checkLines Lines.tickLine
+    Lines.runLines Lines.gridcheck Lines.gridrun
+    printed said
+every = tt

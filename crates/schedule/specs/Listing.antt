@@ -1,0 +1,49 @@
+-- "`gridrun` on S prints" the paper's listing, byte for byte, and gridcheck its two lines: a table of printed lines
+-- with one truth about it.
+-- Assumes nothing.
+use Prim.Native.Nat.{ℕ}
+use mathlib.Core.List.{List, [], _∷_, _++_}
+use mathlib.Core.Path.{_≡_, refl}
+use Rattle.schedule.specs.Lines.{tickLine, gridcheck, gridrun}
+use Rattle.schedule.specs.Cases.{every}
+use Rattle.schedule.specs.Starred.{modelS, choiceS, planS, activity2-at-6}
+
+-- what gridrun prints for S, a row for each line
+abbrev listing : List ℕ
+listing =
+    (48 ∷ 32 ∷ 48 ∷ 48 ∷ 48 ∷ 48 ∷ 48 ∷ 48 ∷ 48 ∷ 50 ∷ 10 ∷ [])
+    ++ (49 ∷ 32 ∷ 48 ∷ 48 ∷ 48 ∷ 48 ∷ 48 ∷ 48 ∷ 48 ∷ 49 ∷ 10 ∷ [])
+    ++ (50 ∷ 32 ∷ 48 ∷ 48 ∷ 48 ∷ 48 ∷ 48 ∷ 48 ∷ 48 ∷ 49 ∷ 10 ∷ [])
+    ++ (51 ∷ 32 ∷ 48 ∷ 48 ∷ 48 ∷ 48 ∷ 48 ∷ 48 ∷ 48 ∷ 50 ∷ 10 ∷ [])
+    ++ (52 ∷ 32 ∷ 48 ∷ 48 ∷ 48 ∷ 48 ∷ 48 ∷ 48 ∷ 48 ∷ 48 ∷ 10 ∷ [])
+    ++ (53 ∷ 32 ∷ 48 ∷ 48 ∷ 48 ∷ 48 ∷ 48 ∷ 48 ∷ 48 ∷ 52 ∷ 10 ∷ [])
+    ++ (54 ∷ 32 ∷ 48 ∷ 48 ∷ 48 ∷ 48 ∷ 48 ∷ 48 ∷ 48 ∷ 48 ∷ 10 ∷ [])
+    ++ (55 ∷ 32 ∷ 48 ∷ 48 ∷ 48 ∷ 48 ∷ 48 ∷ 48 ∷ 48 ∷ 48 ∷ 10 ∷ [])
+    ++ (114 ∷ 117 ∷ 110 ∷ 32 ∷ 97 ∷ 99 ∷ 99 ∷ 101 ∷ 112 ∷ 116 ∷ 101 ∷ 100 ∷ 32 ∷ 53 ∷ 32 ∷ 56 ∷ 32 ∷ 54 ∷ 10 ∷ [])
+
+-- what gridcheck prints for S with activity 2 at tick 6: plain accepted 5 8 7, strict refused 30 5 2
+abbrev two-lines : List ℕ
+two-lines =
+    (112 ∷ 108 ∷ 97 ∷ 105 ∷ 110 ∷ 32 ∷ [])
+    ++ (97 ∷ 99 ∷ 99 ∷ 101 ∷ 112 ∷ 116 ∷ 101 ∷ 100 ∷ 32 ∷ 53 ∷ 32 ∷ 56 ∷ 32 ∷ 55 ∷ 10 ∷ [])
+    ++ (115 ∷ 116 ∷ 114 ∷ 105 ∷ 99 ∷ 116 ∷ 32 ∷ [])
+    ++ (114 ∷ 101 ∷ 102 ∷ 117 ∷ 115 ∷ 101 ∷ 100 ∷ 32 ∷ 51 ∷ 48 ∷ 32 ∷ 53 ∷ 32 ∷ 50 ∷ 10 ∷ [])
+
+-- what gridrun prints for a model alone: run refused 8 0 0
+abbrev one-line : List ℕ
+one-line = 114 ∷ 117 ∷ 110 ∷ 32 ∷ 114 ∷ 101 ∷ 102 ∷ 117 ∷ 115 ∷ 101 ∷ 100 ∷ 32 ∷ 56 ∷ 32 ∷ 48 ∷ 32 ∷ 48 ∷ 10 ∷ []
+
+-- the line of tick 4095 with the word fedcba98
+abbrev long-line : List ℕ
+long-line = 52 ∷ 48 ∷ 57 ∷ 53 ∷ 32 ∷ 102 ∷ 101 ∷ 100 ∷ 99 ∷ 98 ∷ 97 ∷ 57 ∷ 56 ∷ 10 ∷ []
+
+pub printed-lines :
+    _≡_ {A = List (List ℕ)}
+    (gridrun (modelS ++ choiceS)
+    ∷ gridcheck (modelS ++ activity2-at-6 planS)
+    ∷ gridrun modelS
+    ∷ tickLine 4095 0xfedcba98
+    ∷ [])
+    (listing ∷ two-lines ∷ one-line ∷ long-line ∷ [])
+unfolding every
+printed-lines = refl

@@ -1,0 +1,79 @@
+-- "Where an answer is an enum, a definition sets out this paper's number and values for each of its cases": what each
+-- declared answer says, in the paper's numbers. proofs/NumbersLaws.antt shows that no two answers say the same.
+-- Assumes nothing.
+use Prim.Native.Nat.{ℕ}
+use Rattle.schedule.specs.declared.Place.{Place}
+use Rattle.schedule.specs.declared.FormRefusal.{FormRefusal}
+use Rattle.schedule.specs.declared.RuleRefusal.{RuleRefusal}
+use Rattle.schedule.specs.declared.RunRefusal.{RunRefusal}
+use Rattle.schedule.specs.declared.Refusal.{Refusal}
+use Rattle.schedule.specs.declared.Figures.{Figures}
+use Rattle.schedule.specs.declared.Verdict.{Verdict}
+use Rattle.schedule.specs.declared.Written.{Written}
+use Rattle.schedule.specs.declared.RunVerdict.{RunVerdict}
+use Rattle.schedule.specs.declared.WordAt.{WordAt}
+use Rattle.schedule.specs.Rule
+use Rattle.schedule.specs.Answers
+use Rattle.schedule.specs.Answers.{Answer, accepted, refused}
+use Rattle.schedule.specs.Streams.{WordOrPast, word, past}
+
+abbrev pub formNumber : FormRefusal → ℕ
+formNumber FormRefusal.ModelSize = 1
+formNumber FormRefusal.ModelVersion = 2
+formNumber FormRefusal.ModelLimits = 3
+formNumber FormRefusal.ModelFormula = 4
+formNumber FormRefusal.ThreadRow = 5
+formNumber FormRefusal.ActivityRow = 6
+formNumber FormRefusal.MaskRow = 7
+formNumber FormRefusal.SecondSize = 8
+formNumber FormRefusal.SecondVersion = 9
+formNumber FormRefusal.SecondCounts = 10
+formNumber FormRefusal.SecondFormula = 11
+formNumber FormRefusal.ThreadChoice = 12
+formNumber FormRefusal.DurationChoice = 13
+formNumber FormRefusal.WordBits = 14
+
+abbrev pub ruleNumber : RuleRefusal → ℕ
+ruleNumber RuleRefusal.Window = 21
+ruleNumber RuleRefusal.Count = 22
+ruleNumber RuleRefusal.Deadline = 23
+ruleNumber RuleRefusal.Span = 24
+ruleNumber RuleRefusal.Temporal = 25
+ruleNumber RuleRefusal.Data = 26
+ruleNumber RuleRefusal.Eligible = 27
+ruleNumber RuleRefusal.Cores = 28
+ruleNumber RuleRefusal.Preemption = 29
+ruleNumber RuleRefusal.Idle = 30
+ruleNumber RuleRefusal.Tie = 31
+
+abbrev pub runNumber : RunRefusal → ℕ
+runNumber RunRefusal.Room = 41
+runNumber RunRefusal.Owed = 42
+runNumber RunRefusal.Late = 43
+
+-- "A refusal answers its number, A and B"
+abbrev pub refusalNumbers : Refusal → Rule.Refusal
+refusalNumbers (Refusal.Form why at) = record { number = formNumber why; A = at .a; B = at .b }
+refusalNumbers (Refusal.Rule why at) = record { number = ruleNumber why; A = at .a; B = at .b }
+refusalNumbers (Refusal.Run why at) = record { number = runNumber why; A = at .a; B = at .b }
+
+abbrev pub figureNumbers : Figures → Answers.Figures
+figureNumbers f = record { usage = f .usage; capacity = f .capacity; makespan = f .makespan }
+
+abbrev pub writtenNumbers : Written → Answers.Written
+writtenNumbers w = record { length = w .length; figures = figureNumbers (w .figures) }
+
+-- what a check answers
+abbrev pub verdictNumbers : Verdict → Answer Answers.Figures
+verdictNumbers (Verdict.Accepted f) = accepted (figureNumbers f)
+verdictNumbers (Verdict.Refused x) = refused (refusalNumbers x)
+
+-- what the run answers
+abbrev pub runNumbers : RunVerdict → Answer Answers.Written
+runNumbers (RunVerdict.Accepted w) = accepted (writtenNumbers w)
+runNumbers (RunVerdict.Refused x) = refused (refusalNumbers x)
+
+-- what a held view gives at a tick
+abbrev pub wordNumbers : WordAt → WordOrPast
+wordNumbers (WordAt.Word w) = word w
+wordNumbers WordAt.Past = past
