@@ -50,8 +50,8 @@ use Rattle.schedule.specs.Answers.{
   bufferAfter,
   runBuffer,
 }
-use Rattle.schedule.proofs.FirstBreak.{none-iff, some-iff, append-some, hold-append, hold-or-broken, _&_}
-use Rattle.schedule.proofs.Sound.{
+use Rattle.laws.proofs.FirstBreak.{none-iff, some-iff, append-some, hold-append, hold-or-broken, _&_}
+use Rattle.laws.proofs.Sound.{
   modelForm-sound,
   choiceForm-sound,
   planForm-sound,
@@ -62,7 +62,7 @@ use Rattle.schedule.proofs.Sound.{
   strictChecks-sound,
   runChecks-sound,
 }
-use Rattle.schedule.proofs.VerdictLaws.{
+use Rattle.laws.proofs.VerdictLaws.{
   answer-accepted,
   answer-refused,
   verdict-accepted,
@@ -74,7 +74,7 @@ use Rattle.schedule.proofs.VerdictLaws.{
   run-outcome,
   run-verdict,
 }
-use Rattle.schedule.proofs.RuleNumbers.{first-broken-number, input-numbers, run-numbers}
+use Rattle.laws.proofs.RuleNumbers.{first-broken-number, input-numbers, run-numbers}
 use Rattle.schedule.specs.Keeps.{KeepsPlain, KeepsStrict}
 
 -- The plain check, of any two byte strings.

@@ -37,17 +37,17 @@ use Rattle.schedule.specs.Answers.{
   runBuffer,
   HasChoices,
 }
-use Rattle.schedule.proofs.FieldLaws.{field-lt}
-use Rattle.schedule.proofs.PlanBytes.{Fits, ReadsBack, reads-back, length-planBytes, bytes-planBytes}
-use Rattle.schedule.proofs.PlanForm.{form-says, written-form, SameParts, parts-determine}
-use Rattle.schedule.proofs.FirstBreak.{hold-append, _&_}
-use Rattle.schedule.proofs.VerdictLaws.{accepted-is-not-refused}
-use Rattle.schedule.proofs.Words.{bit-high}
-use Rattle.schedule.proofs.Lowest.{lowest-is}
-use Rattle.schedule.proofs.MachineLaws.{runs, word-lt, ended}
-use Rattle.schedule.proofs.Sums.{figures-ext}
-use Rattle.schedule.proofs.Unique.{Beside, same-word, same-start, same-end, nothing-owed}
-use Rattle.schedule.proofs.Exists.{Made, counted, keeps}
+use Rattle.laws.proofs.FieldLaws.{field-lt}
+use Rattle.laws.proofs.PlanBytes.{Fits, ReadsBack, reads-back, length-planBytes, bytes-planBytes}
+use Rattle.laws.proofs.PlanForm.{form-says, written-form, SameParts, parts-determine}
+use Rattle.laws.proofs.FirstBreak.{hold-append, _&_}
+use Rattle.laws.proofs.VerdictLaws.{accepted-is-not-refused}
+use Rattle.laws.proofs.Words.{bit-high}
+use Rattle.laws.proofs.Lowest.{lowest-is}
+use Rattle.laws.proofs.MachineLaws.{runs, word-lt, ended}
+use Rattle.laws.proofs.Sums.{figures-ext}
+use Rattle.laws.proofs.Unique.{Beside, same-word, same-start, same-end, nothing-owed}
+use Rattle.laws.proofs.Exists.{Made, counted, keeps}
 use Rattle.demands.specs.Strict.{PassesWith, Passes, Succeeds, planWritten, SingleStrictPlan}
 use Rattle.demands.proofs.Forms.{Formed, model-says, Chosen, choice-says}
 use Rattle.demands.proofs.Demand2.{
@@ -208,9 +208,13 @@ module _ (s q : List ℕ) (q-bytes : Bytes q) (formed : AllHold (modelForm s))
       let k = passing-keeps r h in
       (λ a _ l _. nothing-owed (model s) (choice q .release) (choice q .duration) (plan r) w k a l)
       & (λ a _ l _ has.
-          let period = h .1 .choices .periods (model s .thread a) (model-facts .owner a l) in
-          omega (arith, period, same-end (model s) (choice q .release) (choice q .duration) (plan r) w k a l,
-          k .plain .deadline a l (λ e. has (sym period ∙ e))))
+      let period = h .1 .choices .periods (model s .thread a) (model-facts .owner a l) in
+      omega (
+        arith,
+        period,
+        same-end (model s) (choice q .release) (choice q .duration) (plan r) w k a l,
+        k .plain .deadline a l (λ e. has (sym period ∙ e)),
+      ))
       & tt
 
   checked : AllHold (runChecks s q)
@@ -231,7 +235,7 @@ module _ (s q : List ℕ) (q-bytes : Bytes q) (formed : AllHold (modelForm s))
     unfolding machinePlan lengthNeeded
     its-plan w e =
         let size : w .length ≡ lengthNeeded (model s) =
-            ap (λ (x : Written). x .length) (run-accepted s q (length buffer) w checked fits .0 e .1) in
+        ap (λ (x : Written). x .length) (run-accepted s q (length buffer) w checked fits .0 e .1) in
         ap (take (w .length)) (buffer-accepted s q buffer w e)
         ∙ take-at (planBytes (machinePlan (model s) (choice q))) (drop (w .length) buffer) (w .length)
         (length-planBytes (machinePlan (model s) (choice q)) ∙ sym size)
@@ -244,9 +248,10 @@ module _ (s q : List ℕ) (q-bytes : Bytes q) (formed : AllHold (modelForm s))
         (written-passes (settled-by w e)))
 
     succeeds : (r : List ℕ) → Passes s q r → Succeeds s q buffer
-    succeeds r h =
-        (record { length = lengthNeeded (model s); figures = figures (model s) (machinePlan (model s) (choice q)) },
-        run-accepted s q (length buffer) _ checked fits .1 (passing-settles r h, refl))
+    succeeds r h = (
+      record { length = lengthNeeded (model s); figures = figures (model s) (machinePlan (model s) (choice q)) },
+      run-accepted s q (length buffer) _ checked fits .1 (passing-settles r h, refl),
+    )
 
     proved : SingleStrictPlan s q buffer
     proved = record {

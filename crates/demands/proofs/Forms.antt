@@ -9,8 +9,8 @@ use Rattle.schedule.specs.Fields.{field, Bytes}
 use Rattle.schedule.specs.Rule.{AllHold}
 use Rattle.schedule.specs.Model.{Model, model, modelForm, limitsRule, activityRule, maskRule, Within}
 use Rattle.schedule.specs.Choice.{Choice, choice, choiceForm, rangeRule, durationRule}
-use Rattle.schedule.proofs.EfeLaws.{Ordered}
-use Rattle.schedule.proofs.FieldLaws.{field-lt}
+use Rattle.laws.proofs.EfeLaws.{Ordered}
+use Rattle.laws.proofs.FieldLaws.{field-lt}
 
 -- rules 3, 6 and 7
 pub record Formed (m : Model) : Type 0 where
@@ -35,13 +35,13 @@ model-says s h =
       lasting = λ a l. rows a 0 l (omega arith) .0 .1;
       ordered = record {
         temporal = λ a b la lb x. elim (decLt b a) [
-            yes y ↦ y
+          | yes y ↦ y
           | no y ↦ absurd (masks a 0 la (omega arith) b (omega (arith, limits .1 .0 .1)) (omega arith) .0 x)
-          ];
+        ];
         by-data = λ a b la lb x. elim (decLt b a) [
-            yes y ↦ y
+          | yes y ↦ y
           | no y ↦ absurd (masks a 0 la (omega arith) b (omega (arith, limits .1 .0 .1)) (omega arith) .1 x)
-          ];
+        ];
       };
     }
 

@@ -34,9 +34,9 @@ pub record Figures : Type 0 where
 -- usage is counted from the words; makespan is the greatest end less the least release over all threads
 unfoldable pub figures : Model → Plan → Figures
 figures m p = record {
-    usage = total (m .horizon) (λ t. ones (p .word t));
-    capacity = m .cores * m .horizon;
-    makespan = greatest (m .activities) (p .end) - least (m .threads) (p .release)
+  usage = total (m .horizon) (λ t. ones (p .word t));
+  capacity = m .cores * m .horizon;
+  makespan = greatest (m .activities) (p .end) - least (m .threads) (p .release);
 }
 
 -- the rules of a check on two byte strings, in the order in which they are tried
@@ -57,22 +57,24 @@ strictVerdict s r = answer (firstBreak (strictChecks s r)) (figures (model s) (p
 -- "the well-formed plan with the chosen releases and periods and the machine's starts, ends and words"
 unfoldable pub machinePlan : Model → Choice → Plan
 machinePlan m q = record {
-    threads = m .threads;
-    activities = m .activities;
-    horizon = m .horizon;
-    release = q .release;
-    period = q .period;
-    start = machineStart m (q .release) (q .duration);
-    end = machineEnd m (q .release) (q .duration);
-    word = machineWord m (q .release) (q .duration)
+  threads = m .threads;
+  activities = m .activities;
+  horizon = m .horizon;
+  release = q .release;
+  period = q .period;
+  start = machineStart m (q .release) (q .duration);
+  end = machineEnd m (q .release) (q .duration);
+  word = machineWord m (q .release) (q .duration);
 }
 
 -- 42 something owed after tick H − 1; A the lowest such activity
 unfoldable pub owedRule : Model → Choice → Rule
 owedRule m q = record {
-    number = 42; rows = m .activities; columns = 1;
-    Holds = λ a _. machineOwes m (q .release) (q .duration) a ≡ 0;
-    test = λ a _. eqb (machineOwes m (q .release) (q .duration) a) 0
+  number = 42;
+  rows = m .activities;
+  columns = 1;
+  Holds = λ a _. machineOwes m (q .release) (q .duration) a ≡ 0;
+  test = λ a _. eqb (machineOwes m (q .release) (q .duration) a) 0;
 }
 
 -- 42, then 43 all ended, an end breaks rule 23; A the lowest

@@ -7,7 +7,6 @@ use mathlib.Core.Option.{Option, some, none}
 use lib.Dec.{eqb, ltb}
 
 infixr 25 _⇒_
-
 -- if the first test passes, so does the second
 abbrev pub _⇒_ : Bool → Bool → Bool
 true ⇒ b = b

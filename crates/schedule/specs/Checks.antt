@@ -65,26 +65,32 @@ window m p a =
 
 unfoldable pub rule21 : Model → Plan → Rule
 rule21 m p = record {
-    number = 21; rows = m .activities; columns = 1;
-    Holds = λ a _. Window m p a;
-    test = λ a _. window m p a
+  number = 21;
+  rows = m .activities;
+  columns = 1;
+  Holds = λ a _. Window m p a;
+  test = λ a _. window m p a;
 }
 
 -- 22 count within the duration range. A activity.
 unfoldable pub rule22 : Model → Plan → Rule
 rule22 m p = record {
-    number = 22; rows = m .activities; columns = 1;
-    Holds = λ a _. Within (m .least-duration a) (m .most-duration a) (countOf m p a);
-    test = λ a _. within (m .least-duration a) (m .most-duration a) (countOf m p a)
+  number = 22;
+  rows = m .activities;
+  columns = 1;
+  Holds = λ a _. Within (m .least-duration a) (m .most-duration a) (countOf m p a);
+  test = λ a _. within (m .least-duration a) (m .most-duration a) (countOf m p a);
 }
 
 -- 23 a thread with a period has end ≤ that period: the one deadline, of a plan's ends (rule 23) and of the run's (43).
 -- A activity.
 unfoldable pub deadlineRule : ℕ → Model → (ℕ → ℕ) → (ℕ → ℕ) → Rule
 deadlineRule number m period end = record {
-    number = number; rows = m .activities; columns = 1;
-    Holds = λ a _. ¬ (period (m .thread a) ≡ 0) → end a ≤ period (m .thread a);
-    test = λ a _. not (eqb (period (m .thread a)) 0) ⇒ leb (end a) (period (m .thread a))
+  number = number;
+  rows = m .activities;
+  columns = 1;
+  Holds = λ a _. ¬ (period (m .thread a) ≡ 0) → end a ≤ period (m .thread a);
+  test = λ a _. not (eqb (period (m .thread a)) 0) ⇒ leb (end a) (period (m .thread a));
 }
 
 unfoldable pub rule23 : Model → Plan → Rule
@@ -93,69 +99,85 @@ rule23 m p = deadlineRule 23 m (p .period) (p .end)
 -- 24 end − start ≥ count, with no truncated difference. A activity.
 unfoldable pub rule24 : Model → Plan → Rule
 rule24 m p = record {
-    number = 24; rows = m .activities; columns = 1;
-    Holds = λ a _. p .start a + countOf m p a ≤ p .end a;
-    test = λ a _. leb (p .start a + countOf m p a) (p .end a)
+  number = 24;
+  rows = m .activities;
+  columns = 1;
+  Holds = λ a _. p .start a + countOf m p a ≤ p .end a;
+  test = λ a _. leb (p .start a + countOf m p a) (p .end a);
 }
 
 -- 25 start ≥ end + delay of each temporal predecessor B. A activity.
 unfoldable pub rule25 : Model → Plan → Rule
 rule25 m p = record {
-    number = 25; rows = m .activities; columns = m .activities;
-    Holds = λ a b. T (temporally m b a) → p .end b + m .delay b ≤ p .start a;
-    test = λ a b. temporally m b a ⇒ leb (p .end b + m .delay b) (p .start a)
+  number = 25;
+  rows = m .activities;
+  columns = m .activities;
+  Holds = λ a b. T (temporally m b a) → p .end b + m .delay b ≤ p .start a;
+  test = λ a b. temporally m b a ⇒ leb (p .end b + m .delay b) (p .start a);
 }
 
 -- 26 start ≥ end of each data predecessor B. A activity.
 unfoldable pub rule26 : Model → Plan → Rule
 rule26 m p = record {
-    number = 26; rows = m .activities; columns = m .activities;
-    Holds = λ a b. T (byData m b a) → p .end b ≤ p .start a;
-    test = λ a b. byData m b a ⇒ leb (p .end b) (p .start a)
+  number = 26;
+  rows = m .activities;
+  columns = m .activities;
+  Holds = λ a b. T (byData m b a) → p .end b ≤ p .start a;
+  test = λ a b. byData m b a ⇒ leb (p .end b) (p .start a);
 }
 
 -- 27 start ≥ efe. A activity.
 unfoldable pub rule27 : Model → Plan → Rule
 rule27 m p = record {
-    number = 27; rows = m .activities; columns = 1;
-    Holds = λ a _. efe m p a ≤ p .start a;
-    test = λ a _. leb (efe m p a) (p .start a)
+  number = 27;
+  rows = m .activities;
+  columns = 1;
+  Holds = λ a _. efe m p a ≤ p .start a;
+  test = λ a _. leb (efe m p a) (p .start a);
 }
 
 -- 28 at most c ones in the word. A tick.
 unfoldable pub rule28 : Model → Plan → Rule
 rule28 m p = record {
-    number = 28; rows = m .horizon; columns = 1;
-    Holds = λ t _. ones (p .word t) ≤ m .cores;
-    test = λ t _. leb (ones (p .word t)) (m .cores)
+  number = 28;
+  rows = m .horizon;
+  columns = 1;
+  Holds = λ t _. ones (p .word t) ≤ m .cores;
+  test = λ t _. leb (ones (p .word t)) (m .cores);
 }
 
 -- 29 with exactly c ones, no waiting B has a priority above an active one's. A tick.
 unfoldable pub rule29 : Model → Plan → Rule
 rule29 m p = record {
-    number = 29; rows = m .horizon; columns = m .activities;
-    Holds = λ t b. ones (p .word t) ≡ m .cores → Waiting m p t b
-        → (a : ℕ) → a < m .activities → T (active p t a) → priorityOf m b ≤ priorityOf m a;
-    test = λ t b. eqb (ones (p .word t)) (m .cores) ⇒ waits m p t b
-        ⇒ all (m .activities) (λ a. active p t a ⇒ leb (priorityOf m b) (priorityOf m a))
+  number = 29;
+  rows = m .horizon;
+  columns = m .activities;
+  Holds = λ t b. ones (p .word t) ≡ m .cores → Waiting m p t b
+      → (a : ℕ) → a < m .activities → T (active p t a) → priorityOf m b ≤ priorityOf m a;
+  test = λ t b. eqb (ones (p .word t)) (m .cores) ⇒ waits m p t b
+      ⇒ all (m .activities) (λ a. active p t a ⇒ leb (priorityOf m b) (priorityOf m a));
 }
 
 -- 30 with fewer than c ones, nothing waits. A tick, B activity.
 unfoldable pub rule30 : Model → Plan → Rule
 rule30 m p = record {
-    number = 30; rows = m .horizon; columns = m .activities;
-    Holds = λ t b. ones (p .word t) < m .cores → ¬ Waiting m p t b;
-    test = λ t b. ltb (ones (p .word t)) (m .cores) ⇒ not (waits m p t b)
+  number = 30;
+  rows = m .horizon;
+  columns = m .activities;
+  Holds = λ t b. ones (p .word t) < m .cores → ¬ Waiting m p t b;
+  test = λ t b. ltb (ones (p .word t)) (m .cores) ⇒ not (waits m p t b);
 }
 
 -- 31 with exactly c ones, no waiting B has the priority of an active activity with a larger number. A tick.
 unfoldable pub rule31 : Model → Plan → Rule
 rule31 m p = record {
-    number = 31; rows = m .horizon; columns = m .activities;
-    Holds = λ t b. Waiting m p t b → ones (p .word t) ≡ m .cores
-        → (a : ℕ) → a < m .activities → T (active p t a) → b < a → ¬ (priorityOf m b ≡ priorityOf m a);
-    test = λ t b. waits m p t b ⇒ eqb (ones (p .word t)) (m .cores)
-        ⇒ all (m .activities) (λ a. active p t a ⇒ ltb b a ⇒ not (eqb (priorityOf m b) (priorityOf m a)))
+  number = 31;
+  rows = m .horizon;
+  columns = m .activities;
+  Holds = λ t b. Waiting m p t b → ones (p .word t) ≡ m .cores
+      → (a : ℕ) → a < m .activities → T (active p t a) → b < a → ¬ (priorityOf m b ≡ priorityOf m a);
+  test = λ t b. waits m p t b ⇒ eqb (ones (p .word t)) (m .cores)
+      ⇒ all (m .activities) (λ a. active p t a ⇒ ltb b a ⇒ not (eqb (priorityOf m b) (priorityOf m a)));
 }
 
 -- "The plain check ends here": rules 21 to 29

@@ -25,39 +25,45 @@ unfoldable pub choice : List ℕ → Choice
 choice q =
     let n : ℕ = field q 5 1 in
     record {
-        threads = n;
-        activities = field q 6 1;
-        release = λ j. field q (7 + 4 * j) 2;
-        period = λ j. field q (7 + 4 * j + 2) 2;
-        duration = λ a. field q (7 + 4 * n + 2 * a) 2
+      threads = n;
+      activities = field q 6 1;
+      release = λ j. field q (7 + 4 * j) 2;
+      period = λ j. field q (7 + 4 * j + 2) 2;
+      duration = λ a. field q (7 + 4 * n + 2 * a) 2;
     }
 
 -- 10: its n or m differs from the model's
 unfoldable pub choiceCounts : Model → Choice → Rule
 choiceCounts m q = record {
-    number = 10; rows = 1; columns = 1;
-    Holds = λ _ _. (q .threads ≡ m .threads) × (q .activities ≡ m .activities);
-    test = λ _ _. eqb (q .threads) (m .threads) && eqb (q .activities) (m .activities)
+  number = 10;
+  rows = 1;
+  columns = 1;
+  Holds = λ _ _. (q .threads ≡ m .threads) × (q .activities ≡ m .activities);
+  test = λ _ _. eqb (q .threads) (m .threads) && eqb (q .activities) (m .activities);
 }
 
 -- 12, thread A: release or period outside the model's range; of a choice and of a plan
 unfoldable pub rangeRule : Model → (ℕ → ℕ) → (ℕ → ℕ) → Rule
 rangeRule m release period = record {
-    number = 12; rows = m .threads; columns = 1;
-    Holds = λ j _.
-        Within (m .least-release j) (m .most-release j) (release j)
-        × Within (m .least-period j) (m .most-period j) (period j);
-    test = λ j _.
-        within (m .least-release j) (m .most-release j) (release j)
-        && within (m .least-period j) (m .most-period j) (period j)
+  number = 12;
+  rows = m .threads;
+  columns = 1;
+  Holds = λ j _.
+      Within (m .least-release j) (m .most-release j) (release j)
+      × Within (m .least-period j) (m .most-period j) (period j);
+  test = λ j _.
+      within (m .least-release j) (m .most-release j) (release j)
+      && within (m .least-period j) (m .most-period j) (period j);
 }
 
 -- 13, activity A: duration outside its range
 unfoldable pub durationRule : Model → Choice → Rule
 durationRule m q = record {
-    number = 13; rows = m .activities; columns = 1;
-    Holds = λ a _. Within (m .least-duration a) (m .most-duration a) (q .duration a);
-    test = λ a _. within (m .least-duration a) (m .most-duration a) (q .duration a)
+  number = 13;
+  rows = m .activities;
+  columns = 1;
+  Holds = λ a _. Within (m .least-duration a) (m .most-duration a) (q .duration a);
+  test = λ a _. within (m .least-duration a) (m .most-duration a) (q .duration a);
 }
 
 -- the choice record's rules beside a model, in the paper's order

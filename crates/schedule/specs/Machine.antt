@@ -54,15 +54,15 @@ wordAt m release t s = wordOf (m .activities) (chosen m (ready m release t s))
 -- "At the beginning t = 0 and each activity owes its chosen duration"
 unfoldable pub initial : Model → (ℕ → ℕ) → State
 initial m duration = record {
-    owed = table (m .activities) duration;
-    ends = table (m .activities) (λ _. 0)
+  owed = table (m .activities) duration;
+  ends = table (m .activities) (λ _. 0);
 }
 
 -- "Each owes one less, and one that now owes nothing ends at t + 1"
 unfoldable pub step : Model → ℕ → ℕ → State → State
 step m t word s = record {
-    owed = table (m .activities) (λ a. owes s a - cond (bit word a) 1 0);
-    ends = table (m .activities) (λ a. cond (bit word a && eqb (owes s a) 1) (t + 1) (endOf s a))
+  owed = table (m .activities) (λ a. owes s a - cond (bit word a) 1 0);
+  ends = table (m .activities) (λ a. cond (bit word a && eqb (owes s a) 1) (t + 1) (endOf s a));
 }
 
 -- the state at tick t: "Then t grows by one; stop at H"

@@ -57,45 +57,51 @@ unfoldable pub model : List ℕ → Model
 model s =
     let n : ℕ = field s 6 1 in
     record {
-        cores = field s 5 1;
-        threads = n;
-        activities = field s 7 1;
-        horizon = field s 8 2;
-        least-period = λ j. field s (threadRow j) 2;
-        most-period = λ j. field s (threadRow j + 2) 2;
-        least-release = λ j. field s (threadRow j + 4) 2;
-        most-release = λ j. field s (threadRow j + 6) 2;
-        priority = λ j. field s (threadRow j + 8) 2;
-        thread = λ a. field s (activityRow n a) 1;
-        least-duration = λ a. field s (activityRow n a + 1) 2;
-        most-duration = λ a. field s (activityRow n a + 3) 2;
-        delay = λ a. field s (activityRow n a + 5) 2;
-        temporal-mask = λ a. field s (activityRow n a + 7) 4;
-        data-mask = λ a. field s (activityRow n a + 11) 4
+      cores = field s 5 1;
+      threads = n;
+      activities = field s 7 1;
+      horizon = field s 8 2;
+      least-period = λ j. field s (threadRow j) 2;
+      most-period = λ j. field s (threadRow j + 2) 2;
+      least-release = λ j. field s (threadRow j + 4) 2;
+      most-release = λ j. field s (threadRow j + 6) 2;
+      priority = λ j. field s (threadRow j + 8) 2;
+      thread = λ a. field s (activityRow n a) 1;
+      least-duration = λ a. field s (activityRow n a + 1) 2;
+      most-duration = λ a. field s (activityRow n a + 3) 2;
+      delay = λ a. field s (activityRow n a + 5) 2;
+      temporal-mask = λ a. field s (activityRow n a + 7) 4;
+      data-mask = λ a. field s (activityRow n a + 11) 4;
     }
 
 -- "Each begins with a 4-byte length, counting the whole record with itself, then a version byte, 1": the three rules
 -- that every record has. A record of fewer than k bytes, or whose length differs from the bytes given:
 unfoldable pub lengthRule : ℕ → ℕ → List ℕ → Rule
 lengthRule number k s = record {
-    number = number; rows = 1; columns = 1;
-    Holds = λ _ _. (k ≤ length s) × (field s 0 4 ≡ length s);
-    test = λ _ _. leb k (length s) && eqb (field s 0 4) (length s)
+  number = number;
+  rows = 1;
+  columns = 1;
+  Holds = λ _ _. (k ≤ length s) × (field s 0 4 ≡ length s);
+  test = λ _ _. leb k (length s) && eqb (field s 0 4) (length s);
 }
 
 unfoldable pub versionRule : ℕ → List ℕ → Rule
 versionRule number s = record {
-    number = number; rows = 1; columns = 1;
-    Holds = λ _ _. field s 4 1 ≡ 1;
-    test = λ _ _. eqb (field s 4 1) 1
+  number = number;
+  rows = 1;
+  columns = 1;
+  Holds = λ _ _. field s 4 1 ≡ 1;
+  test = λ _ _. eqb (field s 4 1) 1;
 }
 
 -- the record's length is what its formula gives
 unfoldable pub formulaRule : ℕ → ℕ → List ℕ → Rule
 formulaRule number wanted s = record {
-    number = number; rows = 1; columns = 1;
-    Holds = λ _ _. field s 0 4 ≡ wanted;
-    test = λ _ _. eqb (field s 0 4) wanted
+  number = number;
+  rows = 1;
+  columns = 1;
+  Holds = λ _ _. field s 0 4 ≡ wanted;
+  test = λ _ _. eqb (field s 0 4) wanted;
 }
 
 -- low ≤ x ≤ high
@@ -108,41 +114,49 @@ within low high x = leb low x && leb x high
 -- 3: c, n, m or H outside its limits
 unfoldable pub limitsRule : Model → Rule
 limitsRule m = record {
-    number = 3; rows = 1; columns = 1;
-    Holds = λ _ _.
-        (Within 1 8 (m .cores) × Within 1 8 (m .threads)) × (Within 1 32 (m .activities) × Within 1 4096 (m .horizon));
-    test = λ _ _.
-        (within 1 8 (m .cores) && within 1 8 (m .threads)) && (within 1 32 (m .activities) && within 1 4096 (m .horizon))
+  number = 3;
+  rows = 1;
+  columns = 1;
+  Holds = λ _ _.
+      (Within 1 8 (m .cores) × Within 1 8 (m .threads)) × (Within 1 32 (m .activities) × Within 1 4096 (m .horizon));
+  test = λ _ _.
+      (within 1 8 (m .cores) && within 1 8 (m .threads)) && (within 1 32 (m .activities) && within 1 4096 (m .horizon));
 }
 
 -- 5, thread row A: a least above its most, or least period 0 with most above 0
 unfoldable pub threadRule : Model → Rule
 threadRule m = record {
-    number = 5; rows = m .threads; columns = 1;
-    Holds = λ j _.
-        ((m .least-period j ≤ m .most-period j) × (m .least-release j ≤ m .most-release j))
-        × (m .least-period j ≡ 0 → m .most-period j ≡ 0);
-    test = λ j _.
-        (leb (m .least-period j) (m .most-period j) && leb (m .least-release j) (m .most-release j))
-        && (eqb (m .least-period j) 0 ⇒ eqb (m .most-period j) 0)
+  number = 5;
+  rows = m .threads;
+  columns = 1;
+  Holds = λ j _.
+      ((m .least-period j ≤ m .most-period j) × (m .least-release j ≤ m .most-release j))
+      × (m .least-period j ≡ 0 → m .most-period j ≡ 0);
+  test = λ j _.
+      (leb (m .least-period j) (m .most-period j) && leb (m .least-release j) (m .most-release j))
+      && (eqb (m .least-period j) 0 ⇒ eqb (m .most-period j) 0);
 }
 
 -- 6, activity row A: thread ≥ n, least duration 0, or least above most
 unfoldable pub activityRule : Model → Rule
 activityRule m = record {
-    number = 6; rows = m .activities; columns = 1;
-    Holds = λ a _.
-        ((m .thread a < m .threads) × (1 ≤ m .least-duration a)) × (m .least-duration a ≤ m .most-duration a);
-    test = λ a _.
-        (ltb (m .thread a) (m .threads) && leb 1 (m .least-duration a)) && leb (m .least-duration a) (m .most-duration a)
+  number = 6;
+  rows = m .activities;
+  columns = 1;
+  Holds = λ a _.
+      ((m .thread a < m .threads) × (1 ≤ m .least-duration a)) × (m .least-duration a ≤ m .most-duration a);
+  test = λ a _.
+      (ltb (m .thread a) (m .threads) && leb 1 (m .least-duration a)) && leb (m .least-duration a) (m .most-duration a);
 }
 
 -- 7, row A: a bit at or above its own number in either mask
 unfoldable pub maskRule : Model → Rule
 maskRule m = record {
-    number = 7; rows = m .activities; columns = 1;
-    Holds = λ a _. (b : ℕ) → b < 32 → a ≤ b → (¬ T (temporally m b a)) × (¬ T (byData m b a));
-    test = λ a _. all 32 (λ b. leb a b ⇒ (not (temporally m b a) && not (byData m b a)))
+  number = 7;
+  rows = m .activities;
+  columns = 1;
+  Holds = λ a _. (b : ℕ) → b < 32 → a ≤ b → (¬ T (temporally m b a)) × (¬ T (byData m b a));
+  test = λ a _. all 32 (λ b. leb a b ⇒ (not (temporally m b a) && not (byData m b a)));
 }
 
 -- the model's form rules, in the paper's order

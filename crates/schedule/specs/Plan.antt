@@ -35,14 +35,14 @@ plan s =
     let n : ℕ = field s 5 1 in
     let m : ℕ = field s 6 1 in
     record {
-        threads = n;
-        activities = m;
-        horizon = field s 7 2;
-        release = λ j. field s (9 + 4 * j) 2;
-        period = λ j. field s (9 + 4 * j + 2) 2;
-        start = λ a. field s (9 + 4 * n + 4 * a) 2;
-        end = λ a. field s (9 + 4 * n + 4 * a + 2) 2;
-        word = λ t. field s (9 + 4 * n + 4 * m + 4 * t) 4
+      threads = n;
+      activities = m;
+      horizon = field s 7 2;
+      release = λ j. field s (9 + 4 * j) 2;
+      period = λ j. field s (9 + 4 * j + 2) 2;
+      start = λ a. field s (9 + 4 * n + 4 * a) 2;
+      end = λ a. field s (9 + 4 * n + 4 * a + 2) 2;
+      word = λ t. field s (9 + 4 * n + 4 * m + 4 * t) 4;
     }
 
 -- a plan's bytes, written from its parts
@@ -60,19 +60,23 @@ planBytes p =
 -- 10: its n, m or H differs from the model's
 unfoldable pub planCounts : Model → Plan → Rule
 planCounts m p = record {
-    number = 10; rows = 1; columns = 1;
-    Holds = λ _ _.
-        ((p .threads ≡ m .threads) × (p .activities ≡ m .activities)) × (p .horizon ≡ m .horizon);
-    test = λ _ _.
-        (eqb (p .threads) (m .threads) && eqb (p .activities) (m .activities)) && eqb (p .horizon) (m .horizon)
+  number = 10;
+  rows = 1;
+  columns = 1;
+  Holds = λ _ _.
+      ((p .threads ≡ m .threads) × (p .activities ≡ m .activities)) × (p .horizon ≡ m .horizon);
+  test = λ _ _.
+      (eqb (p .threads) (m .threads) && eqb (p .activities) (m .activities)) && eqb (p .horizon) (m .horizon);
 }
 
 -- 14, tick A: a bit at or above m
 unfoldable pub wordRule : Model → Plan → Rule
 wordRule m p = record {
-    number = 14; rows = m .horizon; columns = 1;
-    Holds = λ t _. (b : ℕ) → b < 32 → m .activities ≤ b → ¬ T (active p t b);
-    test = λ t _. all 32 (λ b. leb (m .activities) b ⇒ not (active p t b))
+  number = 14;
+  rows = m .horizon;
+  columns = 1;
+  Holds = λ t _. (b : ℕ) → b < 32 → m .activities ≤ b → ¬ T (active p t b);
+  test = λ t _. all 32 (λ b. leb (m .activities) b ⇒ not (active p t b));
 }
 
 -- the plan record's rules beside a model, in the paper's order

@@ -68,7 +68,7 @@ equal-priorities = patch 18 (0 ∷ 4 ∷ []) (patch 28 (0 ∷ 4 ∷ []) modelS)
 abbrev cores : ℕ → List ℕ
 cores c = patch 5 (c ∷ []) modelS
 
-abbrev horizon : ℕ → List ℕ
+abbrev pub horizon : ℕ → List ℕ
 horizon H = patch 8 (0 ∷ H ∷ []) modelS
 
 abbrev wider-period : List ℕ

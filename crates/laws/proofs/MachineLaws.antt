@@ -12,12 +12,12 @@ use lib.Dec.{T, eqb}
 use lib.ListN.{length, getD, length-append, List·getD-append}
 use lib.Seq.{getD-append-seam, getD-at}
 use borrow.Author.Tests.{eq-eqb}
 use Rattle.schedule.specs.Bounded.{all, count, table, bit}
 use Rattle.schedule.specs.Model.{Model, temporally, byData}
 use Rattle.schedule.specs.Machine.{State, owes, endOf, endedBy, ready, chosen, wordAt, initial, step, stateAt, machineWord}
-use Rattle.schedule.proofs.Tests.{tests, below-suc}
-use Rattle.schedule.proofs.Counting.{decT, T-true, T-false, weight, one-if, zero-if, count-suc, count-zero}
-use Rattle.schedule.proofs.Words.{bit-wordOf, bit-high, wordOf-lt}
+use Rattle.laws.proofs.Tests.{tests, below-suc}
+use Rattle.laws.proofs.Counting.{decT, T-true, T-false, weight, one-if, zero-if, count-suc, count-zero}
+use Rattle.laws.proofs.Words.{bit-wordOf, bit-high, wordOf-lt}
 
 length-table : (n : ℕ) (f : ℕ → ℕ) → length (table n f) ≡ n
 unfolding table
@@ -31,6 +31,7 @@ getD-table (suc n) f i h = ⊎-elim (lower (getD-table n f i)) here (below-suc i
   where
     lower : (i < n → getD (table n f) i 0 ≡ f i) → i < n → getD (table n f ++ (f n ∷ [])) i 0 ≡ f i
     lower ih l = List·getD-append (table n f) (f n ∷ []) 0 i (omega (arith, length-table n f)) ∙ ih l
+
     here : i ≡ n → getD (table n f ++ (f n ∷ [])) i 0 ≡ f i
     here e = getD-at (table n f) (f n) [] 0 i (length-table n f ∙ sym e) ∙ ap f (sym e)
 
@@ -50,11 +51,15 @@ ready-sound m release t s a = (λ x. there (simp tests at x), λ h. simp tests (
         ((0 < owes s a) × (release (m .thread a) ≤ t))
         × (((b : ℕ) → b < m .activities → T (temporally m b a) → (owes s b ≡ 0) × (endOf s b + m .delay b ≤ t))
         × ((b : ℕ) → b < m .activities → T (byData m b a) → (owes s b ≡ 0) × (endOf s b + 0 ≤ t)))
+
     there : Parts → Ready m release t s a
     there h = record {
-        owing = h .0 .0; released = h .0 .1; temporal = h .1 .0;
-        by-data = λ b l x. let e = h .1 .1 b l x in (e .0, omega arith)
+      owing = h .0 .0;
+      released = h .0 .1;
+      temporal = h .1 .0;
+      by-data = λ b l x. let e = h .1 .1 b l x in (e .0, omega arith);
     }
+
     back : Ready m release t s a → Parts
     back h = ((h .owing, h .released), (h .temporal, λ b l x. let e = h .by-data b l x in (e .0, omega arith)))
 
@@ -100,8 +105,14 @@ module _ (m : Model) (release duration : ℕ → ℕ) where
   owed-done zero a l = omega (arith, owes-first a l, count-zero (λ u. runs u a))
   owed-done (suc t) a l =
       ⊎-elim
-      (λ x. omega (arith, owed-done t a l, owes-next t a l, count-suc t (λ u. runs u a), one-if (runs t a) x,
-          runs-ready t a l x .owing))
+      (λ x. omega (
+        arith,
+        owed-done t a l,
+        owes-next t a l,
+        count-suc t (λ u. runs u a),
+        one-if (runs t a) x,
+        runs-ready t a l x .owing,
+      ))
       (λ x. omega (arith, owed-done t a l, owes-next t a l, count-suc t (λ u. runs u a), zero-if (runs t a) x))
       (decT (runs t a))
 
@@ -148,23 +159,27 @@ module _ (m : Model) (release duration : ℕ → ℕ) where
     where
       still : (¬ T (runs t a)) → owes (at t) a ≡ 0
       still x = omega (arith, owes-next t a l, zero-if (runs t a) x)
+
       now-last : T (runs t a) → Ended (suc t) a
       now-last x =
           let one : owes (at t) a ≡ 1 =
-              omega (arith, owes-next t a l, one-if (runs t a) x, runs-ready t a l x .owing) in
+          omega (arith, owes-next t a l, one-if (runs t a) x, runs-ready t a l x .owing) in
           let fin : endOf (at (suc t)) a ≡ t + 1 = end-last t a l x one in
           let back : endOf (at (suc t)) a - 1 ≡ t = omega arith in
           record {
-              positive = omega arith; past = omega arith;
-              last = subst (λ (u : ℕ). T (runs u a)) (sym back) x;
-              since = λ u lo hi. absurd (omega arith)
+            positive = omega arith;
+            past = omega arith;
+            last = subst (λ (u : ℕ). T (runs u a)) (sym back) x;
+            since = λ u lo hi. absurd (omega arith);
           }
+
       before-now : (¬ T (runs t a)) → Ended t a → Ended (suc t) a
       before-now x h =
           let same : endOf (at (suc t)) a ≡ endOf (at t) a = end-idle t a l x in
           record {
-              positive = omega (arith, h .positive); past = omega (arith, h .past);
-              last = subst (λ (e : ℕ). T (runs (e - 1) a)) (sym same) (h .last);
-              since = λ u lo hi. ⊎-elim (λ b. h .since u (omega arith) b) (λ z. subst (λ (v : ℕ). ¬ T (runs v a)) (sym z) x)
-                  (below-suc u t hi)
+            positive = omega (arith, h .positive);
+            past = omega (arith, h .past);
+            last = subst (λ (e : ℕ). T (runs (e - 1) a)) (sym same) (h .last);
+            since = λ u lo hi. ⊎-elim (λ b. h .since u (omega arith) b) (λ z. subst (λ (v : ℕ). ¬ T (runs v a)) (sym z) x)
+                (below-suc u t hi);
           }

@@ -30,8 +30,8 @@ use Rattle.schedule.specs.Answers.{
   outcome,
   runAnswer,
 }
-use Rattle.schedule.proofs.FirstBreak.{AllSound, none-iff, some-iff, append-none}
-use Rattle.schedule.proofs.Sound.{modelForm-sound, planForm-sound, runChecks-sound}
+use Rattle.laws.proofs.FirstBreak.{AllSound, none-iff, some-iff, append-none}
+use Rattle.laws.proofs.Sound.{modelForm-sound, planForm-sound, runChecks-sound}
 
 -- a call answers a pass, or a refusal, and never both
 pub accepted-is-not-refused : {F : Type 0} (f : F) (x : Refusal) → ¬ (accepted f ≡ refused x)

@@ -9,9 +9,9 @@ use mathlib.Core.List.{List, [], _∷_, _++_}
 use mathlib.Core.Path.{_≡_, refl, sym, _∙_}
 use lib.ListN.{length, getD, length-append, List·getD-append, List·getD-eq-default}
 use lib.Seq.{getD-append-add, getD-at}
 use Rattle.schedule.specs.Bounded.{rows}
 use Rattle.schedule.specs.Fields.{field, bytes, Bytes}
-use Rattle.schedule.proofs.Tests.{up-to}
+use Rattle.laws.proofs.Tests.{up-to}
 
 -- ---- strings of bytes
 

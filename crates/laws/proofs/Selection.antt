@@ -9,11 +9,11 @@ use mathlib.Core.Bool.{Bool, true, false, _&&_}
 use mathlib.Core.Logic.{_⊎_, inl, inr, ⊎-elim}
 use mathlib.Core.Path.{_≡_, sym, subst, _∙_}
 use lib.Dec.{T, eqb, ltb, ltb→lt, lt→ltb}
 use Rattle.schedule.specs.Bounded.{count}
 use Rattle.schedule.specs.Model.{Model, priorityOf}
 use Rattle.schedule.specs.Machine.{before, rank, chosen}
-use Rattle.schedule.proofs.Tests.{tests, T-and, T-or, below-suc}
-use Rattle.schedule.proofs.Counting.{decT, T-ext, count-mono, count-less, count-union, count-single, count-none}
+use Rattle.laws.proofs.Tests.{tests, T-and, T-or, below-suc}
+use Rattle.laws.proofs.Counting.{decT, T-ext, count-mono, count-less, count-union, count-single, count-none}
 
 -- b ranks before a, as a statement
 unfoldable pub Before : Model → ℕ → ℕ → Type 0
@@ -52,12 +52,12 @@ before-total : (m : Model) (a b : ℕ) → ¬ (a ≡ b) → Before m a b ⊎ Bef
 unfolding Before
 before-total m a b d =
     elim (decLt (priorityOf m b) (priorityOf m a)) [
-      yes x ↦ inl (inl x)
-    | no x ↦ elim (decLt (priorityOf m a) (priorityOf m b)) [
-        yes y ↦ inr (inl y)
-      | no y ↦ elim (decLt a b) [
-          yes z ↦ inl (inr (omega arith, z))
-        | no z ↦ inr (inr (omega arith, omega arith))
+      | yes x ↦ inl (inl x)
+      | no x ↦ elim (decLt (priorityOf m a) (priorityOf m b)) [
+        | yes y ↦ inr (inl y)
+        | no y ↦ elim (decLt a b) [
+          | yes z ↦ inl (inr (omega arith, z))
+          | no z ↦ inr (inr (omega arith, omega arith))
         ]
       ]
     ]
@@ -107,6 +107,7 @@ module _ (m : Model) (rdy : ℕ → Bool) where
     where
       same : (a b : ℕ) → (a ≡ b) ⊎ (¬ (a ≡ b))
       same a b = elim (ℕ-discrete a b) [ yes x ↦ inl x | no x ↦ inr x ]
+
       differ : ¬ (a ≡ b) → ⊥
       differ d =
           ⊎-elim (λ h. omega (arith, rank-less a b la ra h)) (λ h. omega (arith, rank-less b a lb rb h))
@@ -119,13 +120,17 @@ module _ (m : Model) (rdy : ℕ → Bool) where
       le-of-eq (count-none (m .activities) (within-first 0)
       (λ i l t. absurd (not-suc-le-zero (ltb→lt (rank m rdy i) 0 (T-and (rdy i) (ltb (rank m rdy i) 0) .0 t .1)))))
   first-few (suc k) =
-      omega (arith, first-few k,
-      count-union (m .activities) (within-first (suc k)) (within-first k) (exactly k) (λ i _ t. split i (simp tests at t)),
-      count-single (m .activities) (exactly k) (λ i j li lj ti tj. one i j li lj (simp tests at ti) (simp tests at tj)))
+      omega (
+        arith,
+        first-few k,
+        count-union (m .activities) (within-first (suc k)) (within-first k) (exactly k) (λ i _ t. split i (simp tests at t)),
+        count-single (m .activities) (exactly k) (λ i j li lj ti tj. one i j li lj (simp tests at ti) (simp tests at tj)),
+      )
     where
       split : (i : ℕ) → T (rdy i) × (rank m rdy i < suc k) → T (within-first k i) ⊎ T (exactly k i)
       split i h =
           ⊎-elim (λ l. inl (simp tests (h .0, l))) (λ e. inr (simp tests (h .0, e))) (below-suc (rank m rdy i) k (h .1))
+
       one : (i j : ℕ) → i < m .activities → j < m .activities → T (rdy i) × (rank m rdy i ≡ k)
           → T (rdy j) × (rank m rdy j ≡ k) → i ≡ j
       one i j li lj hi hj = rank-tells i j li lj (hi .0) (hj .0) (hi .1 ∙ sym (hj .1))
@@ -174,30 +179,38 @@ module _ (m : Model) (rdy : ℕ → Bool) where
     where
       n : ℕ
       n = m .activities
+
       full : (count n act < m .cores) ⊎ (count n act ≡ m .cores)
       full = elim (decLt (count n act) (m .cores)) [ yes h ↦ inl h | no h ↦ inr (omega (arith, p .at-most)) ]
+
       -- whatever ranks before an active one is active
       kept : T (act a) → (i : ℕ) → i < n → T (ahead a i) → T (act i)
       kept t i li x =
           let h = ahead-says a i x in
           ⊎-elim (λ y. y)
           (λ idle. ⊎-elim (λ few. p .not-idle few i li (h .0))
-              (λ all. absurd (p .in-order all i a li l (h .0) idle t (h .1))) full)
+          (λ all. absurd (p .in-order all i a li l (h .0) idle t (h .1))) full)
           (decT (act i))
+
       there : T (act a) → T (chosen m rdy a)
       there t =
           chosen-is a (p .are-ready a l t)
-          (omega (arith, p .at-most,
-          count-less n (ahead a) act (kept t) a l t (λ x. before-irreflexive m a (ahead-says a a x .1))))
+          (omega (
+            arith,
+            p .at-most,
+            count-less n (ahead a) act (kept t) a l t (λ x. before-irreflexive m a (ahead-says a a x .1)),
+          ))
+
       -- with c active and a not among them, all of them rank before a
       others : (¬ T (act a)) → T (rdy a) → count n act ≡ m .cores → (i : ℕ) → i < n → T (act i) → T (ahead a i)
       others idle r all i li t =
           ⊎-elim (λ h. ahead-is a i (p .are-ready i li t) h) (λ h. absurd (p .in-order all a i l li r idle t h))
           (before-total m i a (λ e. idle (subst (λ x. T (act x)) e t)))
+
       back : T (chosen m rdy a) → T (act a)
       back t =
           let h = chosen-says a t in
           ⊎-elim (λ y. y)
           (λ idle. ⊎-elim (λ few. p .not-idle few a l (h .0))
-              (λ all. absurd (omega (arith, h .1, all, count-mono n act (ahead a) (others idle (h .0) all)))) full)
+          (λ all. absurd (omega (arith, h .1, all, count-mono n act (ahead a) (others idle (h .0) all)))) full)
           (decT (act a))

@@ -55,6 +55,7 @@ T-all (suc n) p = (there (T-all n p .0), back (T-all n p .1))
     there ih t =
         let both = T-and (all n p) (p n) .0 t in
         up-to (λ i. T (p i)) n (ih (both .0)) (both .1)
+
     back : (((i : ℕ) → i < n → T (p i)) → T (all n p)) → ((i : ℕ) → i < suc n → T (p i)) → T (all n p && p n)
     back ih h = T-and (all n p) (p n) .1 (ih (λ i l. h i (omega arith)), h n (omega arith))
 

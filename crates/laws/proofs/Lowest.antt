@@ -8,9 +8,9 @@ use mathlib.Core.Logic.{_⊎_, inl, inr, ⊎-elim}
 use mathlib.Core.Path.{_≡_, refl, sym, subst, ap, _∙_}
 use lib.Dec.{T, ltb}
 use borrow.Author.Tests.{lt-ltb, le-ltb}
 use Rattle.schedule.specs.Bounded.{lowest}
-use Rattle.schedule.proofs.Tests.{up-to}
-use Rattle.schedule.proofs.Counting.{decT, T-true, T-false}
+use Rattle.laws.proofs.Tests.{up-to}
+use Rattle.laws.proofs.Counting.{decT, T-true, T-false}
 
 pub record Lowest (n : ℕ) (p : ℕ → Bool) (i : ℕ) : Type 0 where
   pub bound : i ≤ n
@@ -24,10 +24,13 @@ lowest-is (suc n) p = next (lowest n p) (lowest-is n p)
   where
     chosen : ℕ → ℕ
     chosen i = cond (ltb i n) i (cond (p n) n (suc n))
+
     move : (i k : ℕ) → chosen i ≡ k → Lowest (suc n) p k → Lowest (suc n) p (chosen i)
     move i k e h = subst (λ (x : ℕ). Lowest (suc n) p x) (sym e) h
+
     top : (i : ℕ) → i ≡ n → chosen i ≡ cond (p n) n (suc n)
     top i e = ap (λ (b : Bool). cond b i (cond (p n) n (suc n))) (le-ltb i n (omega arith))
+
     at-top : (i : ℕ) → Lowest n p i → i ≡ n → T (p n) ⊎ (¬ T (p n)) → Lowest (suc n) p (chosen i)
     at-top i h e (inl t) =
         move i n (top i e ∙ ap (λ (b : Bool). cond b n (suc n)) (T-true (p n) t))
@@ -35,16 +38,17 @@ lowest-is (suc n) p = next (lowest n p) (lowest-is n p)
     at-top i h e (inr f) =
         move i (suc n) (top i e ∙ ap (λ (b : Bool). cond b n (suc n)) (T-false (p n) f))
         (record {
-            bound = omega arith;
-            none-below = up-to (λ j. ¬ T (p j)) n (λ j l. h .none-below j (omega arith)) f;
-            found = λ l. absurd (omega arith)
+          bound = omega arith;
+          none-below = up-to (λ j. ¬ T (p j)) n (λ j l. h .none-below j (omega arith)) f;
+          found = λ l. absurd (omega arith);
         })
+
     next : (i : ℕ) → Lowest n p i → Lowest (suc n) p (chosen i)
     next i h =
         elim (decLt i n) [
-          yes l ↦ move i i (ap (λ (b : Bool). cond b i (cond (p n) n (suc n))) (lt-ltb i n l))
+          | yes l ↦ move i i (ap (λ (b : Bool). cond b i (cond (p n) n (suc n))) (lt-ltb i n l))
               (record { bound = omega arith; none-below = h .none-below; found = λ _. h .found l })
-        | no l ↦ at-top i h (omega (arith, h .bound)) (decT (p n))
+          | no l ↦ at-top i h (omega (arith, h .bound)) (decT (p n))
         ]
 
 -- the lowest is the one that has the property with none below it
@@ -52,10 +56,10 @@ pub lowest-unique : (n : ℕ) (p : ℕ → Bool) (i : ℕ) → i < n → T (p i)
 lowest-unique n p i l t h =
     let low = lowest-is n p in
     elim (decLt (lowest n p) i) [
-      yes b ↦ absurd (h (lowest n p) b (low .found (omega arith)))
-    | no b ↦ elim (decLt i (lowest n p)) [
-        yes c ↦ absurd (low .none-below i c t)
-      | no c ↦ omega arith
+      | yes b ↦ absurd (h (lowest n p) b (low .found (omega arith)))
+      | no b ↦ elim (decLt i (lowest n p)) [
+        | yes c ↦ absurd (low .none-below i c t)
+        | no c ↦ omega arith
       ]
     ]
 
@@ -64,5 +68,5 @@ pub lowest-found : (n : ℕ) (p : ℕ → Bool) (k : ℕ) → k < n → T (p k) 
 lowest-found n p k l t =
     let low = lowest-is n p in
     let small : lowest n p ≤ k =
-        elim (decLt k (lowest n p)) [ yes c ↦ absurd (low .none-below k c t) | no c ↦ omega arith ] in
+    elim (decLt k (lowest n p)) [ yes c ↦ absurd (low .none-below k c t) | no c ↦ omega arith ] in
     (small, low .found (omega arith))

@@ -5,12 +5,12 @@ use native.Mathlib.Omega.{arith}
 use mathlib.Core.List.{List, _++_}
 use mathlib.Core.Path.{_≡_}
 use lib.ListN.{length, length-append}
 use Rattle.schedule.specs.Bounded.{rows}
 use Rattle.schedule.specs.Fields.{field, bytes, Bytes}
 use Rattle.schedule.specs.Plan.{Plan, plan, planBytes, planLength}
-use Rattle.schedule.proofs.FieldLaws.{length-bytes, bytes-bytes, length-rows, bytes-append, bytes-rows}
-use Rattle.schedule.proofs.Parts.{Stands, stands-whole, stands-first, stands-second}
-use Rattle.schedule.proofs.Parts.{stands-field, stands-next, stands-row}
+use Rattle.laws.proofs.FieldLaws.{length-bytes, bytes-bytes, length-rows, bytes-append, bytes-rows}
+use Rattle.laws.proofs.Parts.{Stands, stands-whole, stands-first, stands-second}
+use Rattle.laws.proofs.Parts.{stands-field, stands-next, stands-row}
 
 -- every part of a plan fits the bytes that it is written in
 pub record Fits (p : Plan) : Type 0 where

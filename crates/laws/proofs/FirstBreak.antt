@@ -9,9 +9,9 @@ use mathlib.Core.Logic.{_⊎_, inl, inr, _↔_, ⊎-elim, Iff·and, Iff·trans}
 use mathlib.Core.Option.{Option, some, none, Option·some-ne-none, Option·none-ne-some, Option·some-injective}
 use mathlib.Core.Path.{_≡_, refl, sym, _∙_, ap, subst}
 use lib.Dec.{T}
 use Rattle.schedule.specs.Bounded.{first}
 use Rattle.schedule.specs.Rule.{Rule, Refusal, break, firstBreak, Everywhere, AllHold, Earlier, BrokenAt, FirstBroken}
-use Rattle.schedule.proofs.Tests.{below-suc, up-to}
+use Rattle.laws.proofs.Tests.{below-suc, up-to}
 
 infixr 4 _&_
 -- the first of two that is something

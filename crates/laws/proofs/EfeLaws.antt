@@ -10,11 +10,11 @@ use mathlib.Core.Path.{_≡_, refl, sym, subst, ap, ap₂, _∙_}
 use lib.Dec.{T}
 use lib.ListN.{length, getD, length-append, List·getD-append}
 use lib.Seq.{getD-at}
 use Rattle.schedule.specs.Model.{Model, temporally, byData}
 use Rattle.schedule.specs.Plan.{Plan}
 use Rattle.schedule.specs.Checks.{countOf, efeFrom, efes, efe}
-use Rattle.schedule.proofs.Tests.{below-suc}
-use Rattle.schedule.proofs.Sums.{greatest-ext, greatest-bound}
+use Rattle.laws.proofs.Tests.{below-suc}
+use Rattle.laws.proofs.Sums.{greatest-ext, greatest-bound}
 
 -- "b must be below the row's own number"
 pub record Ordered (m : Model) : Type 0 where
@@ -68,9 +68,9 @@ module _ (m : Model) (p : Plan) where
       efe-made a l
       ∙ ap₂ (λ (x y : ℕ). max (p .release (m .thread a)) (max x y))
       (greatest-ext (m .activities) _ _ (λ b lb. if-same (temporally m b a) _ _
-          (λ t. ap (λ (e : ℕ). e + countOf m p b + m .delay b) (sym (efes-keep a (m .activities) b (omega arith) (o .temporal a b l lb t))))))
+      (λ t. ap (λ (e : ℕ). e + countOf m p b + m .delay b) (sym (efes-keep a (m .activities) b (omega arith) (o .temporal a b l lb t))))))
       (greatest-ext (m .activities) _ _ (λ b lb. if-same (byData m b a) _ _
-          (λ t. ap (λ (e : ℕ). e + countOf m p b) (sym (efes-keep a (m .activities) b (omega arith) (o .by-data a b l lb t))))))
+      (λ t. ap (λ (e : ℕ). e + countOf m p b) (sym (efes-keep a (m .activities) b (omega arith) (o .by-data a b l lb t))))))
 
   pub efe-release : Ordered m → (a : ℕ) → a < m .activities → p .release (m .thread a) ≤ efe m p a
   unfolding efeFrom
@@ -83,8 +83,12 @@ module _ (m : Model) (p : Plan) where
       → efe m p a ≤ x
   unfolding efeFrom
   efe-bound o a x l r ht hd =
-      omega (arith, efe-equation o a l, r,
-      greatest-bound (m .activities) (λ b. cond (temporally m b a) (efe m p b + countOf m p b + m .delay b) 0) x
-          (λ b lb. if-bound (temporally m b a) _ x (ht b lb)),
-      greatest-bound (m .activities) (λ b. cond (byData m b a) (efe m p b + countOf m p b) 0) x
-          (λ b lb. if-bound (byData m b a) _ x (hd b lb)))
+      omega (
+        arith,
+        efe-equation o a l,
+        r,
+        greatest-bound (m .activities) (λ b. cond (temporally m b a) (efe m p b + countOf m p b + m .delay b) 0) x
+            (λ b lb. if-bound (temporally m b a) _ x (ht b lb)),
+        greatest-bound (m .activities) (λ b. cond (byData m b a) (efe m p b + countOf m p b) 0) x
+            (λ b lb. if-bound (byData m b a) _ x (hd b lb)),
+      )

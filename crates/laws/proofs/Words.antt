@@ -10,9 +10,9 @@ use mathlib.Core.Path.{_≡_, refl, sym, subst, ap, ap₂, _∙_}
 use lib.Dec.{T, eqb, eqb→eq}
 use lib.Pow.{pow-pos, pow-mono, high, low, mod-pow-add, field, mod-mod-pow}
 use borrow.Author.Tests.{eq-eqb, ne-eqb}
 use Rattle.schedule.specs.Bounded.{count, bit, wordOf, ones}
-use Rattle.schedule.proofs.Tests.{below-suc}
-use Rattle.schedule.proofs.Counting.{count-stops, weight}
+use Rattle.laws.proofs.Tests.{below-suc}
+use Rattle.laws.proofs.Counting.{count-stops, weight}
 
 -- a remainder of a remainder, at a lower power
 mod-lower : (w n k : ℕ) → k ≤ n → w % 2 ^ n % 2 ^ k ≡ w % 2 ^ k
@@ -93,17 +93,21 @@ bit-wordOf (suc n) p b h = ⊎-elim (lower (bit-wordOf n p b)) here (below-suc b
   where
     whole : ℕ
     whole = weight (p n) * 2 ^ n + wordOf n p
+
     lower : (b < n → bit (wordOf n p) b ≡ p b) → b < n → bit (wordOf (suc n) p) b ≡ p b
     lower ih l =
         ap (λ (w : ℕ). bit w b) (wordOf-suc n p)
         ∙ sym (bit-low whole n b l)
         ∙ ap (λ (w : ℕ). bit w b) (low (weight (p n)) n (wordOf-lt n p))
         ∙ ih l
+
     told : (b : Bool) → eqb (weight b % 2) 1 ≡ b
     told true = refl
     told false = refl
+
     above : bit whole n ≡ p n
     above = ap (λ (x : ℕ). eqb (x % 2) 1) (high (weight (p n)) n (wordOf-lt n p)) ∙ told (p n)
+
     here : b ≡ n → bit (wordOf (suc n) p) b ≡ p b
     here e =
         subst (λ (i : ℕ). bit (wordOf (suc n) p) i ≡ p i) (sym e)

@@ -8,10 +8,10 @@ use native.Mathlib.Omega.{arith}
 use mathlib.Core.List.{List, _++_}
 use mathlib.Core.Path.{_≡_, _∙_}
 use lib.ListN.{length, getD, length-append, List·getD-append}
 use Rattle.schedule.specs.Bounded.{rows}
 use Rattle.schedule.specs.Fields.{field, bytes, Bytes}
-use Rattle.schedule.proofs.FieldLaws.{field-injective, length-bytes, field-bytes, getD-behind}
-use Rattle.schedule.proofs.FieldLaws.{row-lt, length-rows, getD-rows}
+use Rattle.laws.proofs.FieldLaws.{field-injective, length-bytes, field-bytes, getD-behind}
+use Rattle.laws.proofs.FieldLaws.{row-lt, length-rows, getD-rows}
 
 -- ---- the list b stands in s from position at
 

@@ -7,8 +7,8 @@ use mathlib.Core.Bool.{Bool, true, false, not, cond}
 use mathlib.Core.Logic.{_⊎_, inl, inr, ⊎-elim}
 use mathlib.Core.Path.{_≡_, refl, sym, subst, ap}
 use lib.Dec.{T}
 use Rattle.schedule.specs.Bounded.{count}
-use Rattle.schedule.proofs.Tests.{below-suc}
+use Rattle.laws.proofs.Tests.{below-suc}
 
 -- a test passes or it does not
 pub decT : (b : Bool) → T b ⊎ (¬ T b)
@@ -64,14 +64,24 @@ count-zero p = refl
 pub count-ext : (n : ℕ) (p q : ℕ → Bool) → ((i : ℕ) → i < n → p i ≡ q i) → count n p ≡ count n q
 count-ext zero p q h = omega (arith, count-zero p, count-zero q)
 count-ext (suc n) p q h =
-    omega (arith, count-suc n p, count-suc n q, count-ext n p q (λ i l. h i (omega arith)),
-    ap weight (h n (omega arith)))
+    omega (
+      arith,
+      count-suc n p,
+      count-suc n q,
+      count-ext n p q (λ i l. h i (omega arith)),
+      ap weight (h n (omega arith)),
+    )
 
 pub count-mono : (n : ℕ) (p q : ℕ → Bool) → ((i : ℕ) → i < n → T (p i) → T (q i)) → count n p ≤ count n q
 count-mono zero p q h = omega (arith, count-zero p, count-zero q)
 count-mono (suc n) p q h =
-    omega (arith, count-suc n p, count-suc n q, count-mono n p q (λ i l. h i (omega arith)),
-    weight-mono (p n) (q n) (h n (omega arith)))
+    omega (
+      arith,
+      count-suc n p,
+      count-suc n q,
+      count-mono n p q (λ i l. h i (omega arith)),
+      weight-mono (p n) (q n) (h n (omega arith)),
+    )
 
 -- one more has q than p: strictly fewer have p
 pub count-less : (n : ℕ) (p q : ℕ → Bool) → ((i : ℕ) → i < n → T (p i) → T (q i))
@@ -79,10 +89,21 @@ pub count-less : (n : ℕ) (p q : ℕ → Bool) → ((i : ℕ) → i < n → T (
 count-less zero p q h k l tq np = absurd (omega arith)
 count-less (suc n) p q h k l tq np =
     ⊎-elim
-    (λ (b : k < n). omega (arith, count-suc n p, count-suc n q,
-        count-less n p q (λ i l. h i (omega arith)) k b tq np, weight-mono (p n) (q n) (h n (omega arith))))
-    (λ (e : k ≡ n). omega (arith, count-suc n p, count-suc n q, count-mono n p q (λ i l. h i (omega arith)),
-        one-if (q n) (subst (λ i. T (q i)) e tq), zero-if (p n) (subst (λ i. ¬ T (p i)) e np)))
+    (λ (b : k < n). omega (
+      arith,
+      count-suc n p,
+      count-suc n q,
+      count-less n p q (λ i l. h i (omega arith)) k b tq np,
+      weight-mono (p n) (q n) (h n (omega arith)),
+    ))
+    (λ (e : k ≡ n). omega (
+      arith,
+      count-suc n p,
+      count-suc n q,
+      count-mono n p q (λ i l. h i (omega arith)),
+      one-if (q n) (subst (λ i. T (q i)) e tq),
+      zero-if (p n) (subst (λ i. ¬ T (p i)) e np),
+    ))
     (below-suc k n l)
 
 pub count-none : (n : ℕ) (p : ℕ → Bool) → ((i : ℕ) → i < n → ¬ T (p i)) → count n p ≡ 0
@@ -121,6 +142,7 @@ count-between k (suc n) p h =
   where
     dec : (a b : ℕ) → (a < b) ⊎ (¬ (a < b))
     dec a b = elim (decLt a b) [ yes l ↦ inl l | no l ↦ inr l ]
+
     here : (¬ (count k p < count n p)) → T (p n) ⊎ (¬ T (p n)) → (i : ℕ) × (k ≤ i) × (i < suc n) × T (p i)
     here l (inl t) = (n, high, omega arith, t)
       where
@@ -132,8 +154,8 @@ count-between k (suc n) p h =
 pub count-stops : (k n : ℕ) (p : ℕ → Bool) → k ≤ n → ((i : ℕ) → k ≤ i → i < n → ¬ T (p i)) → count n p ≡ count k p
 count-stops k n p h none-more =
     elim (decLt (count k p) (count n p)) [
-      yes l ↦ let f = count-between k n p l in absurd (none-more (f .0) (f .1) (f .2) (f .3))
-    | no l ↦ omega (arith, count-grows k n p h)
+      | yes l ↦ let f = count-between k n p l in absurd (none-more (f .0) (f .1) (f .2) (f .3))
+      | no l ↦ omega (arith, count-grows k n p h)
     ]
 
 -- a count grows by at most one for each number passed
@@ -150,8 +172,14 @@ pub count-union : (n : ℕ) (r p q : ℕ → Bool) → ((i : ℕ) → i < n → 
     → count n r ≤ count n p + count n q
 count-union zero r p q h = omega (arith, count-zero r)
 count-union (suc n) r p q h =
-    omega (arith, count-suc n r, count-suc n p, count-suc n q, count-union n r p q (λ i l. h i (omega arith)),
-    one (r n) (p n) (q n) (h n (omega arith)))
+    omega (
+      arith,
+      count-suc n r,
+      count-suc n p,
+      count-suc n q,
+      count-union n r p q (λ i l. h i (omega arith)),
+      one (r n) (p n) (q n) (h n (omega arith)),
+    )
   where
     one : (a b c : Bool) → (T a → T b ⊎ T c) → weight a ≤ weight b + weight c
     one false b c f = omega arith

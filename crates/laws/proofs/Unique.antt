@@ -10,18 +10,18 @@ use mathlib.Core.Logic.{_⊎_, inl, inr, ⊎-elim}
 use mathlib.Core.Path.{_≡_, refl, sym, subst, ap, _∙_}
 use lib.Dec.{T}
 use lib.Pow.{pow-mono}
 use Rattle.schedule.specs.Bounded.{count, bit, ones}
 use Rattle.schedule.specs.Model.{Model, priorityOf, temporally, byData}
 use Rattle.schedule.specs.Plan.{Plan, active}
 use Rattle.schedule.specs.Machine.{State, owes, endOf, ready, chosen, stateAt, machineWord, machineStart, machineEnd, machineOwes}
 use Rattle.schedule.specs.Checks.{countOf, efe, Waiting, Window}
 use Rattle.schedule.specs.Keeps.{KeepsPlain, KeepsStrict}
-use Rattle.schedule.proofs.Counting.{decT, T-false, weight, one-if, zero-if, count-suc, count-zero, count-some, count-grows, count-stops, count-between}
-use Rattle.schedule.proofs.Words.{bit-high, word-ext, ones-count}
-use Rattle.schedule.proofs.Selection.{Before, Picked, picked-chosen}
-use Rattle.schedule.proofs.Lowest.{lowest-unique}
-use Rattle.schedule.proofs.MachineLaws.{Ready, ready-sound, at, runs, owes-first, owes-next, runs-chosen, word-lt, end-idle, end-last}
-use Rattle.schedule.proofs.EfeLaws.{Ordered, efe-release, efe-bound}
+use Rattle.laws.proofs.Counting.{decT, T-false, weight, one-if, zero-if, count-suc, count-zero, count-some, count-grows, count-stops, count-between}
+use Rattle.laws.proofs.Words.{bit-high, word-ext, ones-count}
+use Rattle.laws.proofs.Selection.{Before, Picked, picked-chosen}
+use Rattle.laws.proofs.Lowest.{lowest-unique}
+use Rattle.laws.proofs.MachineLaws.{Ready, ready-sound, at, runs, owes-first, owes-next, runs-chosen, word-lt, end-idle, end-last}
+use Rattle.laws.proofs.EfeLaws.{Ordered, efe-release, efe-bound}
 
 -- What a plan is beside a model and the machine's releases and durations: its words are 32 bits wide with no bit from
 -- m on, its releases are the machine's, and its counts are the durations.
@@ -50,8 +50,8 @@ module _ (m : Model) (release duration : ℕ → ℕ) (p : Plan) (w : Beside m r
   agrees-first : ((a : ℕ) → a < m .activities → 0 < duration a) → Agrees 0
   unfolding done
   agrees-first pos = record {
-      left = λ a l. omega (arith, owes-first m release duration a l, count-zero (λ u. active p u a));
-      finished = λ a l e. absurd (omega (arith, owes-first m release duration a l, pos a l))
+    left = λ a l. omega (arith, owes-first m release duration a l, count-zero (λ u. active p u a));
+    finished = λ a l e. absurd (omega (arith, owes-first m release duration a l, pos a l));
   }
 
   -- all of the count is done once the end is past
@@ -59,7 +59,7 @@ module _ (m : Model) (release duration : ℕ → ℕ) (p : Plan) (w : Beside m r
   unfolding done countOf
   all-done t a l e h =
       sym (count-stops t (m .horizon) (λ u. active p u a) h
-          (λ u lo hi x. absurd (omega (arith, k .plain .window a l .none-outside u hi x .1))))
+      (λ u lo hi x. absurd (omega (arith, k .plain .window a l .none-outside u hi x .1))))
       ∙ w .lasts a l
 
   -- something left to do lies before the end
@@ -86,36 +86,42 @@ module _ (m : Model) (release duration : ℕ → ℕ) (p : Plan) (w : Beside m r
         let win = k .plain .window a l in
         let from : p .start a ≤ t = win .none-outside t in-time x .0 in
         record {
-            owing = omega (arith, agrees .left a l, w .lasts a l, count-suc t (λ u. active p u a), one-if (active p t a) x,
-                count-grows (suc t) (m .horizon) (λ u. active p u a) in-time);
-            released = omega (arith, w .released a l, efe-release m p (w .ordered) a l, k .plain .eligible a l);
-            temporal = λ b lb y.
-                let r = k .plain .temporal a b l lb y in
-                let e = ended-by b lb (omega arith) in
-                (e .0, omega (arith, e .1));
-            by-data = λ b lb y.
-                let r = k .plain .by-data a b l lb y in
-                let e = ended-by b lb (omega arith) in
-                (e .0, omega (arith, e .1))
+          owing = omega (
+            arith,
+            agrees .left a l,
+            w .lasts a l,
+            count-suc t (λ u. active p u a),
+            one-if (active p t a) x,
+            count-grows (suc t) (m .horizon) (λ u. active p u a) in-time,
+          );
+          released = omega (arith, w .released a l, efe-release m p (w .ordered) a l, k .plain .eligible a l);
+          temporal = λ b lb y.
+              let r = k .plain .temporal a b l lb y in
+              let e = ended-by b lb (omega arith) in
+              (e .0, omega (arith, e .1));
+          by-data = λ b lb y.
+              let r = k .plain .by-data a b l lb y in
+              let e = ended-by b lb (omega arith) in
+              (e .0, omega (arith, e .1));
         }
 
     ready-waits : (a : ℕ) → a < m .activities → Ready m release t s a → (¬ T (active p t a)) → Waiting m p t a
     unfolding s done
     ready-waits a l r idle =
         let spent : (b : ℕ) → b < m .activities → efe m p b + countOf m p b ≤ p .end b =
-            λ b lb. omega (arith, k .plain .eligible b lb, k .plain .span b lb) in
+        λ b lb. omega (arith, k .plain .eligible b lb, k .plain .span b lb) in
         let after : (b : ℕ) → b < m .activities → T (temporally m b a) → p .end b + m .delay b ≤ t =
-            λ b lb y. omega (arith, r .temporal b lb y .1, agrees .finished b lb (r .temporal b lb y .0)) in
+        λ b lb y. omega (arith, r .temporal b lb y .1, agrees .finished b lb (r .temporal b lb y .0)) in
         let behind : (b : ℕ) → b < m .activities → T (byData m b a) → p .end b ≤ t =
-            λ b lb y. omega (arith, r .by-data b lb y .1, agrees .finished b lb (r .by-data b lb y .0)) in
+        λ b lb y. omega (arith, r .by-data b lb y .1, agrees .finished b lb (r .by-data b lb y .0)) in
         record {
-            clear = idle;
-            eligible = efe-bound m p (w .ordered) a t l (omega (arith, w .released a l, r .released))
-                (λ b lb y. omega (arith, spent b lb, after b lb y))
-                (λ b lb y. omega (arith, spent b lb, behind b lb y));
-            unended = before-end t a l (omega (arith, agrees .left a l, r .owing));
-            temporal = after;
-            by-data = behind
+          clear = idle;
+          eligible = efe-bound m p (w .ordered) a t l (omega (arith, w .released a l, r .released))
+              (λ b lb y. omega (arith, spent b lb, after b lb y))
+              (λ b lb y. omega (arith, spent b lb, behind b lb y));
+          unended = before-end t a l (omega (arith, agrees .left a l, r .owing));
+          temporal = after;
+          by-data = behind;
         }
 
     ones-active : ones (p .word t) ≡ count (m .activities) (λ a. active p t a)
@@ -124,17 +130,20 @@ module _ (m : Model) (release duration : ℕ → ℕ) (p : Plan) (w : Beside m r
     picked : Picked m (ready m release t s) (λ a. active p t a)
     unfolding s Before
     picked = record {
-        are-ready = λ a l x. ready-sound m release t s a .1 (active-ready a l x);
-        at-most = omega (arith, ones-active, k .plain .cores t in-time);
-        not-idle = λ few b l r. ⊎-elim (λ x. x)
-            (λ x. absurd (k .idle t b in-time l (omega (arith, ones-active))
-                (ready-waits b l (ready-sound m release t s b .0 r) x)))
-            (decT (active p t b));
-        in-order = λ all b a lb la r x y. ⊎-elim
-            (λ h. omega (arith, k .plain .priority t b in-time lb (ones-active ∙ all)
-                (ready-waits b lb (ready-sound m release t s b .0 r) x) a la y))
-            (λ h. k .tie t b in-time lb (ready-waits b lb (ready-sound m release t s b .0 r) x) (ones-active ∙ all)
-                a la y (h .1) (h .0))
+      are-ready = λ a l x. ready-sound m release t s a .1 (active-ready a l x);
+      at-most = omega (arith, ones-active, k .plain .cores t in-time);
+      not-idle = λ few b l r. ⊎-elim (λ x. x)
+          (λ x. absurd (k .idle t b in-time l (omega (arith, ones-active))
+          (ready-waits b l (ready-sound m release t s b .0 r) x)))
+          (decT (active p t b));
+      in-order = λ all b a lb la r x y. ⊎-elim
+          (λ h. omega (
+            arith,
+            k .plain .priority t b in-time lb (ones-active ∙ all)
+                (ready-waits b lb (ready-sound m release t s b .0 r) x) a la y,
+          ))
+          (λ h. k .tie t b in-time lb (ready-waits b lb (ready-sound m release t s b .0 r) x) (ones-active ∙ all)
+          a la y (h .1) (h .0));
     }
 
     -- the plan's tick is the machine's
@@ -150,11 +159,16 @@ module _ (m : Model) (release duration : ℕ → ℕ) (p : Plan) (w : Beside m r
         let win = k .plain .window a l in
         let inside = win .none-outside t in-time x .1 in
         elim (decLt (t + 1) (p .end a)) [
-          yes h ↦ absurd (omega (arith, e, w .lasts a l,
-              count-grows (suc t) (p .end a - 1) (λ u. active p u a) (omega arith),
-              count-suc (p .end a - 1) (λ u. active p u a), one-if (active p (p .end a - 1) a) (win .last-set),
-              count-grows (suc (p .end a - 1)) (m .horizon) (λ u. active p u a) (omega (arith, win .inside))))
-        | no h ↦ omega arith
+          | yes h ↦ absurd (omega (
+            arith,
+            e,
+            w .lasts a l,
+            count-grows (suc t) (p .end a - 1) (λ u. active p u a) (omega arith),
+            count-suc (p .end a - 1) (λ u. active p u a),
+            one-if (active p (p .end a - 1) a) (win .last-set),
+            count-grows (suc (p .end a - 1)) (m .horizon) (λ u. active p u a) (omega (arith, win .inside)),
+          ))
+          | no h ↦ omega arith
         ]
 
     agrees-next : Agrees (suc t)
@@ -165,13 +179,21 @@ module _ (m : Model) (release duration : ℕ → ℕ) (p : Plan) (w : Beside m r
             → owes (at m release duration (suc t)) a ≡ owes s a - weight (active p t a)
         moved a l =
             owes-next m release duration t a l ∙ ap (λ (b : Bool). owes s a - weight b) (sym (same-bit a l))
+
         still : (a : ℕ) → a < m .activities → T (active p t a) ⊎ (¬ T (active p t a))
             → owes (at m release duration (suc t)) a + done (suc t) a ≡ duration a
         still a l (inl x) =
-            omega (arith, moved a l, agrees .left a l, count-suc t (λ u. active p u a), one-if (active p t a) x,
-            active-ready a l x .owing)
+            omega (
+              arith,
+              moved a l,
+              agrees .left a l,
+              count-suc t (λ u. active p u a),
+              one-if (active p t a) x,
+              active-ready a l x .owing,
+            )
         still a l (inr x) =
             omega (arith, moved a l, agrees .left a l, count-suc t (λ u. active p u a), zero-if (active p t a) x)
+
         fin : (a : ℕ) → a < m .activities → owes (at m release duration (suc t)) a ≡ 0
             → T (active p t a) ⊎ (¬ T (active p t a)) → endOf (at m release duration (suc t)) a ≡ p .end a
         fin a l e (inl x) =
@@ -187,8 +209,11 @@ module _ (m : Model) (release duration : ℕ → ℕ) (p : Plan) (w : Beside m r
   unfolding countOf
   lasts-long a l =
       let win = k .plain .window a l in
-      omega (arith, w .lasts a l,
-      count-some (m .horizon) (λ u. active p u a) (p .start a) (omega (arith, win .ordered, win .inside)) (win .first-set))
+      omega (
+        arith,
+        w .lasts a l,
+        count-some (m .horizon) (λ u. active p u a) (p .start a) (omega (arith, win .ordered, win .inside)) (win .first-set),
+      )
 
   agrees-at : (t : ℕ) → t ≤ m .horizon → Agrees t
   agrees-at zero h = agrees-first lasts-long
@@ -200,10 +225,10 @@ module _ (m : Model) (release duration : ℕ → ℕ) (p : Plan) (w : Beside m r
       word-ext 32 (p .word t) (machineWord m release duration t) (w .narrow t h)
       (lt-of-lt-of-le (word-lt m release duration t) (pow-mono (w .few)))
       (λ b l. elim (decLt b (m .activities)) [
-        yes c ↦ same-bit t h (agrees-at t (omega arith)) b c
-      | no c ↦ T-false (active p t b) (w .known t h b l (omega arith))
-          ∙ sym (T-false (runs m release duration t b)
-              (bit-high (machineWord m release duration t) (m .activities) b (word-lt m release duration t) (omega arith)))
+        | yes c ↦ same-bit t h (agrees-at t (omega arith)) b c
+        | no c ↦ T-false (active p t b) (w .known t h b l (omega arith))
+            ∙ sym (T-false (runs m release duration t b)
+            (bit-high (machineWord m release duration t) (m .activities) b (word-lt m release duration t) (omega arith)))
       ])
 
   -- the machine ends with nothing owed, and with the plan's ends and starts
@@ -221,6 +246,9 @@ module _ (m : Model) (release duration : ℕ → ℕ) (p : Plan) (w : Beside m r
       let win = k .plain .window a l in
       let first : p .start a < m .horizon = omega (arith, win .ordered, win .inside) in
       sym (lowest-unique (m .horizon) (λ t. runs m release duration t a) (p .start a) first
-          (subst (λ (x : ℕ). T (bit x a)) (same-word (p .start a) first) (win .first-set))
-          (λ t b x. absurd (omega (arith, b,
-              win .none-outside t (omega arith) (subst (λ (y : ℕ). T (bit y a)) (sym (same-word t (omega arith))) x) .0))))
+      (subst (λ (x : ℕ). T (bit x a)) (same-word (p .start a) first) (win .first-set))
+      (λ t b x. absurd (omega (
+        arith,
+        b,
+        win .none-outside t (omega arith) (subst (λ (y : ℕ). T (bit y a)) (sym (same-word t (omega arith))) x) .0,
+      ))))

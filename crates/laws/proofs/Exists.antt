@@ -8,29 +8,32 @@ use mathlib.Core.Bool.{Bool}
 use mathlib.Core.Logic.{_⊎_, inl, inr, ⊎-elim}
 use mathlib.Core.Path.{_≡_, refl, sym, subst, ap, _∙_}
 use lib.Dec.{T}
 use Rattle.schedule.specs.Bounded.{count, bit, ones, lowest}
 use Rattle.schedule.specs.Model.{Model, priorityOf, temporally, byData, Within}
 use Rattle.schedule.specs.Plan.{Plan, active}
 use Rattle.schedule.specs.Machine.{State, owes, endOf, ready, chosen, stateAt, machineWord, machineStart, machineEnd, machineOwes}
 use Rattle.schedule.specs.Checks.{countOf, efe, Waiting, Window}
 use Rattle.schedule.specs.Keeps.{KeepsPlain, KeepsStrict}
-use Rattle.schedule.proofs.Counting.{count-ext, count-none, count-stops, count-span}
-use Rattle.schedule.proofs.Words.{bit-high, ones-count}
-use Rattle.schedule.proofs.Selection.{Before, chosen-few, chosen-all, chosen-first}
-use Rattle.schedule.proofs.Lowest.{lowest-is, lowest-found}
-use Rattle.schedule.proofs.MachineLaws.{Ready, ready-sound, at, runs, runs-chosen, runs-ready, word-lt, owed-done, stays, Ended, ended}
-use Rattle.schedule.proofs.EfeLaws.{Ordered, efe-release, efe-bound}
+use Rattle.laws.proofs.Counting.{count-ext, count-none, count-stops, count-span}
+use Rattle.laws.proofs.Words.{bit-high, ones-count}
+use Rattle.laws.proofs.Selection.{Before, chosen-few, chosen-all, chosen-first}
+use Rattle.laws.proofs.Lowest.{lowest-is, lowest-found}
+use Rattle.laws.proofs.MachineLaws.{Ready, ready-sound, at, runs, runs-chosen, runs-ready, word-lt, owed-done, stays, Ended, ended}
+use Rattle.laws.proofs.EfeLaws.{Ordered, efe-release, efe-bound}
 
 -- A plan that keeps its window has its active ticks inside it, so rule 24 follows from rule 21.
 pub window-span : (m : Model) (p : Plan) (a : ℕ) → Window m p a → p .start a + countOf m p a ≤ p .end a
 unfolding countOf
 window-span m p a win =
-    omega (arith, win .ordered,
-    count-none (p .start a) (λ t. active p t a)
-        (λ t l x. absurd (omega (arith, win .none-outside t (omega (arith, win .ordered, win .inside)) x .0))),
-    count-stops (p .end a) (m .horizon) (λ t. active p t a) (win .inside)
-        (λ t lo hi x. absurd (omega (arith, win .none-outside t hi x .1))),
-    count-span (p .start a) (p .end a) (λ t. active p t a) (omega (arith, win .ordered)))
+    omega (
+      arith,
+      win .ordered,
+      count-none (p .start a) (λ t. active p t a)
+          (λ t l x. absurd (omega (arith, win .none-outside t (omega (arith, win .ordered, win .inside)) x .0))),
+      count-stops (p .end a) (m .horizon) (λ t. active p t a) (win .inside)
+          (λ t lo hi x. absurd (omega (arith, win .none-outside t hi x .1))),
+      count-span (p .start a) (p .end a) (λ t. active p t a) (omega (arith, win .ordered)),
+    )
 
 -- A plan that the machine makes: its words, starts, ends and releases are the machine's.
 pub record Made (m : Model) (release duration : ℕ → ℕ) (p : Plan) : Type 0 where
@@ -43,7 +46,6 @@ module _ (m : Model) (release duration : ℕ → ℕ) (p : Plan) (made : Made m 
     (ordered : Ordered m) (few : m .activities ≤ 32)
     (lasting : (a : ℕ) → a < m .activities → 0 < duration a)
     (settled : (a : ℕ) → a < m .activities → machineOwes m release duration a ≡ 0) where
-
   H : ℕ
   H = m .horizon
 
@@ -79,22 +81,25 @@ module _ (m : Model) (release duration : ℕ → ℕ) (p : Plan) (made : Made m 
       let e : p .end a ≡ endOf (at m release duration (m .horizon)) a = its-end a l in
       let run : ℕ → Bool = λ t. runs m release duration t a in
       let low = lowest-found (m .horizon) run (endOf (at m release duration (m .horizon)) a - 1)
-          (omega (arith, fin .positive, fin .past)) (fin .last) in
+      (omega (arith, fin .positive, fin .past)) (fin .last) in
       let b : p .start a ≡ lowest (m .horizon) run = made .starts a l in
       record {
-          ordered = omega (arith, fin .positive, low .0);
-          inside = omega (arith, fin .past);
-          first-set = subst (λ (t : ℕ). T (active p t a)) (sym b)
-              (is-active (lowest (m .horizon) run) a (omega (arith, fin .positive, fin .past, low .0)) (low .1));
-          last-set = subst (λ (t : ℕ). T (active p (t - 1) a)) (sym e)
-              (is-active (endOf (at m release duration (m .horizon)) a - 1) a (omega (arith, fin .positive, fin .past)) (fin .last));
-          none-outside = λ t h x.
-              (elim (decLt t (p .start a)) [
-                yes c ↦ absurd (lowest-is (m .horizon) run .none-below t (omega arith) (is-run t a h x))
-              | no c ↦ omega arith ],
-              elim (decLt t (p .end a)) [
-                yes c ↦ c
-              | no c ↦ absurd (fin .since t (omega arith) h (is-run t a h x)) ])
+        ordered = omega (arith, fin .positive, low .0);
+        inside = omega (arith, fin .past);
+        first-set = subst (λ (t : ℕ). T (active p t a)) (sym b)
+            (is-active (lowest (m .horizon) run) a (omega (arith, fin .positive, fin .past, low .0)) (low .1));
+        last-set = subst (λ (t : ℕ). T (active p (t - 1) a)) (sym e)
+            (is-active (endOf (at m release duration (m .horizon)) a - 1) a (omega (arith, fin .positive, fin .past)) (fin .last));
+        none-outside = λ t h x. (
+          elim (decLt t (p .start a)) [
+            | yes c ↦ absurd (lowest-is (m .horizon) run .none-below t (omega arith) (is-run t a h x))
+            | no c ↦ omega arith
+          ],
+          elim (decLt t (p .end a)) [
+            | yes c ↦ c
+            | no c ↦ absurd (fin .since t (omega arith) h (is-run t a h x))
+          ],
+        );
       }
 
   -- an activity is ready at its start
@@ -127,10 +132,18 @@ module _ (m : Model) (release duration : ℕ → ℕ) (p : Plan) (made : Made m 
   eligible-below zero a b l = absurd (omega arith)
   eligible-below (suc k) a b l =
       efe-bound m p ordered a (p .start a) l (omega (arith, made .released a l, ready-start a l .released))
-      (λ c lc x. omega (arith, temporal a c l lc x, window-span m p c (window c lc),
-          eligible-below k c (omega (arith, ordered .temporal a c l lc x)) lc))
-      (λ c lc x. omega (arith, by-data a c l lc x, window-span m p c (window c lc),
-          eligible-below k c (omega (arith, ordered .by-data a c l lc x)) lc))
+      (λ c lc x. omega (
+        arith,
+        temporal a c l lc x,
+        window-span m p c (window c lc),
+        eligible-below k c (omega (arith, ordered .temporal a c l lc x)) lc,
+      ))
+      (λ c lc x. omega (
+        arith,
+        by-data a c l lc x,
+        window-span m p c (window c lc),
+        eligible-below k c (omega (arith, ordered .by-data a c l lc x)) lc,
+      ))
 
   eligible : (a : ℕ) → a < m .activities → efe m p a ≤ p .start a
   eligible a l = eligible-below (suc a) a (omega arith) l
@@ -141,9 +154,9 @@ module _ (m : Model) (release duration : ℕ → ℕ) (p : Plan) (made : Made m 
   ones-chosen t h =
       ap ones (made .words t h)
       ∙ ones-count (machineWord m release duration t) (m .activities) few
-          (λ b _ l. bit-high (machineWord m release duration t) (m .activities) b (word-lt m release duration t) l)
+      (λ b _ l. bit-high (machineWord m release duration t) (m .activities) b (word-lt m release duration t) l)
       ∙ count-ext (m .activities) (λ a. runs m release duration t a) (chosen m (ready m release t (at m release duration t)))
-          (λ a l. runs-chosen m release duration t a l)
+      (λ a l. runs-chosen m release duration t a l)
 
   active-chosen : (t a : ℕ) → t < m .horizon → a < m .activities
       → active p t a ≡ chosen m (ready m release t (at m release duration t)) a
@@ -153,29 +166,38 @@ module _ (m : Model) (release duration : ℕ → ℕ) (p : Plan) (made : Made m 
   all-done : (t b : ℕ) → b < m .activities → t < m .horizon → p .end b ≤ t → owes (at m release duration t) b ≡ 0
   unfolding machineOwes
   all-done t b l h e =
-      omega (arith, owed-done m release duration t b l, owed-done m release duration (m .horizon) b l, settled b l,
-      count-stops t (m .horizon) (λ u. runs m release duration u b) (omega arith)
-          (λ u lo hi x. at-end b l .since u (omega (arith, its-end b l)) hi x))
+      omega (
+        arith,
+        owed-done m release duration t b l,
+        owed-done m release duration (m .horizon) b l,
+        settled b l,
+        count-stops t (m .horizon) (λ u. runs m release duration u b) (omega arith)
+            (λ u lo hi x. at-end b l .since u (omega (arith, its-end b l)) hi x),
+      )
 
   -- whatever waits is ready, and not chosen
   waits-ready : (t a : ℕ) → t < m .horizon → a < m .activities → Waiting m p t a
       → Ready m release t (at m release duration t) a
   waits-ready t a h l w = record {
-      owing = elim (decLt 0 (owes (at m release duration t) a)) [
-          yes o ↦ o
-        | no o ↦ let z : owes (at m release duration t) a ≡ 0 = omega arith in
-            absurd (omega (arith, w .unended, end-then t a l (omega arith) z,
-            ended m release duration t a l (lasting a l) z .past))
-        ];
-      released = omega (arith, made .released a l, efe-release m p ordered a l, w .eligible);
-      temporal = λ b lb x.
-          let e = w .temporal b lb x in
-          let z = all-done t b lb h (omega arith) in
-          (z, omega (arith, e, end-then t b lb (omega arith) z));
-      by-data = λ b lb x.
-          let e = w .by-data b lb x in
-          let z = all-done t b lb h e in
-          (z, omega (arith, e, end-then t b lb (omega arith) z))
+    owing = elim (decLt 0 (owes (at m release duration t) a)) [
+      | yes o ↦ o
+      | no o ↦ let z : owes (at m release duration t) a ≡ 0 = omega arith in
+          absurd (omega (
+            arith,
+            w .unended,
+            end-then t a l (omega arith) z,
+            ended m release duration t a l (lasting a l) z .past,
+          ))
+    ];
+    released = omega (arith, made .released a l, efe-release m p ordered a l, w .eligible);
+    temporal = λ b lb x.
+        let e = w .temporal b lb x in
+        let z = all-done t b lb h (omega arith) in
+        (z, omega (arith, e, end-then t b lb (omega arith) z));
+    by-data = λ b lb x.
+        let e = w .by-data b lb x in
+        let z = all-done t b lb h e in
+        (z, omega (arith, e, end-then t b lb (omega arith) z));
   }
 
   -- no waiting activity ranks before an active one
@@ -193,24 +215,24 @@ module _ (m : Model) (release duration : ℕ → ℕ) (p : Plan) (made : Made m 
       → KeepsStrict m p
   unfolding Before
   keeps range deadline = record {
-      plain = record {
-          window = window;
-          duration = λ a l. subst (λ (d : ℕ). Within (m .least-duration a) (m .most-duration a) d) (sym (counted a l)) (range a l);
-          deadline = deadline;
-          span = λ a l. window-span m p a (window a l);
-          temporal = temporal;
-          by-data = by-data;
-          eligible = eligible;
-          cores = λ t h. omega (arith, ones-chosen t h, chosen-few m (ready m release t (at m release duration t)));
-          priority = λ t b h lb _ w a la x.
-              elim (decLt (priorityOf m a) (priorityOf m b)) [
-                yes y ↦ absurd (in-order t b a h lb la w x (inl y))
-              | no y ↦ omega arith
-              ]
-      };
-      idle = λ t b h lb o w.
-          w .clear (subst T (sym (active-chosen t b h lb))
-          (chosen-all m (ready m release t (at m release duration t)) (omega (arith, ones-chosen t h)) b lb
-          (ready-sound m release t (at m release duration t) b .1 (waits-ready t b h lb w))));
-      tie = λ t b h lb w _ a la x less e. in-order t b a h lb la w x (inr (e, less))
+    plain = record {
+      window = window;
+      duration = λ a l. subst (λ (d : ℕ). Within (m .least-duration a) (m .most-duration a) d) (sym (counted a l)) (range a l);
+      deadline = deadline;
+      span = λ a l. window-span m p a (window a l);
+      temporal = temporal;
+      by-data = by-data;
+      eligible = eligible;
+      cores = λ t h. omega (arith, ones-chosen t h, chosen-few m (ready m release t (at m release duration t)));
+      priority = λ t b h lb _ w a la x.
+          elim (decLt (priorityOf m a) (priorityOf m b)) [
+            | yes y ↦ absurd (in-order t b a h lb la w x (inl y))
+            | no y ↦ omega arith
+          ];
+    };
+    idle = λ t b h lb o w.
+        w .clear (subst T (sym (active-chosen t b h lb))
+        (chosen-all m (ready m release t (at m release duration t)) (omega (arith, ones-chosen t h)) b lb
+        (ready-sound m release t (at m release duration t) b .1 (waits-ready t b h lb w))));
+    tie = λ t b h lb w _ a la x less e. in-order t b a h lb la w x (inr (e, less));
   }

@@ -9,13 +9,13 @@ use mathlib.Core.Path.{_≡_, sym, _∙_}
 use lib.Dec.{T}
 use lib.ListN.{length}
 use lib.Seq.{ext-getD}
 use Rattle.schedule.specs.Fields.{field, Bytes}
 use Rattle.schedule.specs.Rule.{AllHold}
 use Rattle.schedule.specs.Model.{Model, lengthRule, versionRule, formulaRule, Within}
 use Rattle.schedule.specs.Choice.{rangeRule}
 use Rattle.schedule.specs.Plan.{Plan, plan, active, planBytes, planLength, planForm, planCounts, wordRule}
-use Rattle.schedule.proofs.Parts.{Alike, alike-join, alike-field, alike-rows}
-use Rattle.schedule.proofs.PlanBytes.{Fits, ReadsBack, reads-back, length-planBytes}
+use Rattle.laws.proofs.Parts.{Alike, alike-join, alike-field, alike-rows}
+use Rattle.laws.proofs.PlanBytes.{Fits, ReadsBack, reads-back, length-planBytes}
 
 -- the thread ranges of rule 12, and the words of rule 14, of a plan's parts
 abbrev pub InRange : Model → Plan → Type 0

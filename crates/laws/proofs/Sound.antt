@@ -39,9 +39,9 @@ use Rattle.schedule.specs.Checks.{
   rule30,
   rule31,
 }
 use Rattle.schedule.specs.Answers.{owedRule, runRules, plainChecks, strictChecks, runChecks}
-use Rattle.schedule.proofs.Tests.{tests}
-use Rattle.schedule.proofs.FirstBreak.{AllSound, sound-append, _&_}
+use Rattle.laws.proofs.Tests.{tests}
+use Rattle.laws.proofs.FirstBreak.{AllSound, sound-append, _&_}
 
 -- the two statements that are records, by their parts
 pub window-sound : (m : Model) (p : Plan) (a : ℕ) → T (window m p a) ↔ Window m p a
