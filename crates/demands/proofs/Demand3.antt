@@ -35,6 +35,8 @@ use Rattle.schedule.specs.Answers.{
   runChecks,
   runAnswer,
   runBuffer,
+  MeetsForm,
+  PassesTests,
   HasChoices,
 }
 use Rattle.laws.proofs.FieldLaws.{field-lt}
@@ -268,6 +270,6 @@ module _ (s q : List ℕ) (q-bytes : Bytes q) (formed : AllHold (modelForm s))
     }
 
 -- Demand 3, whole.
-pub demand-3 : (s q buffer : List ℕ) → Bytes q → AllHold (modelForm s) → AllHold (choiceForm (model s) q)
+pub demand-3 : (s q buffer : List ℕ) → Bytes q → MeetsForm s → PassesTests s q
     → lengthNeeded (model s) ≤ length buffer → SingleStrictPlan s q buffer
 demand-3 s q buffer q-bytes formed tested fits = proved s q q-bytes formed tested buffer fits

@@ -6,17 +6,17 @@ use mathlib.Core.Logic.{_↔_}
 use mathlib.Core.Path.{_≡_}
 use lib.ListN.{length, take}
 use Rattle.schedule.specs.Fields.{Bytes}
-use Rattle.schedule.specs.Rule.{Refusal, AllHold}
+use Rattle.schedule.specs.Rule.{Refusal}
 use Rattle.schedule.specs.Model.{model}
 use Rattle.schedule.specs.Choice.{choice}
-use Rattle.schedule.specs.Plan.{plan, planForm}
-use Rattle.schedule.specs.Answers.{accepted, refused, Figures, plainVerdict, strictVerdict, Written, runAnswer, runBuffer, HasChoices}
+use Rattle.schedule.specs.Plan.{plan}
+use Rattle.schedule.specs.Answers.{accepted, refused, Figures, plainVerdict, strictVerdict, Written, runAnswer, runBuffer, WellFormed, HasChoices}
 
 -- A plan record that is well-formed for the model, has the choices of the choice record, and passes the strict check
 -- with these figures.
 pub record PassesWith (s q r : List ℕ) (f : Figures) : Type 0 where
   pub bytes : Bytes r
-  pub well-formed : AllHold (planForm (model s) r)
+  pub well-formed : WellFormed s r
   pub choices : HasChoices (model s) (choice q) (plan r)
   pub strict : strictVerdict s r ≡ accepted f
 

@@ -1,5 +1,5 @@
 -- The plan that the machine makes, where nothing is owed at its end, keeps the strict rules but for 22 and 23, which the
--- chosen durations and the periods decide.
+-- selected durations and the periods decide.
 -- Assumes nothing.
 use Prim.Native.Nat.{ℕ, zero, suc, _+_, _-_, _≤_, _<_}
 use native.Mathlib.Decide.{decLt}
@@ -11,14 +11,14 @@ use lib.Dec.{T}
 use Rattle.schedule.specs.Bounded.{count, bit, ones, lowest}
 use Rattle.schedule.specs.Model.{Model, priorityOf, temporally, byData, Within}
 use Rattle.schedule.specs.Plan.{Plan, active}
-use Rattle.schedule.specs.Machine.{State, owes, endOf, ready, chosen, stateAt, machineWord, machineStart, machineEnd, machineOwes}
+use Rattle.schedule.specs.Machine.{State, owes, endOf, ready, selected, stateAt, machineWord, machineStart, machineEnd, machineOwes}
 use Rattle.schedule.specs.Checks.{countOf, efe, Waiting, Window}
 use Rattle.schedule.specs.Keeps.{KeepsPlain, KeepsStrict}
 use Rattle.laws.proofs.Counting.{count-ext, count-none, count-stops, count-span}
 use Rattle.laws.proofs.Words.{bit-high, ones-count}
-use Rattle.laws.proofs.Selection.{Before, chosen-few, chosen-all, chosen-first}
+use Rattle.laws.proofs.Selection.{Before, selected-few, selected-all, selected-first}
 use Rattle.laws.proofs.Lowest.{lowest-is, lowest-found}
-use Rattle.laws.proofs.MachineLaws.{Ready, ready-sound, at, runs, runs-chosen, runs-ready, word-lt, owed-done, stays, Ended, ended}
+use Rattle.laws.proofs.MachineLaws.{Ready, ready-sound, at, runs, runs-selected, runs-ready, word-lt, owed-done, stays, Ended, ended}
 use Rattle.laws.proofs.EfeLaws.{Ordered, efe-release, efe-bound}
 
 -- A plan that keeps its window has its active ticks inside it, so rule 24 follows from rule 21.
@@ -148,19 +148,19 @@ module _ (m : Model) (release duration : ℕ → ℕ) (p : Plan) (made : Made m 
   eligible : (a : ℕ) → a < m .activities → efe m p a ≤ p .start a
   eligible a l = eligible-below (suc a) a (omega arith) l
 
-  -- a tick's ones are its chosen
-  ones-chosen : (t : ℕ) → t < m .horizon
-      → ones (p .word t) ≡ count (m .activities) (chosen m (ready m release t (at m release duration t)))
-  ones-chosen t h =
+  -- a tick's ones are its selected
+  ones-selected : (t : ℕ) → t < m .horizon
+      → ones (p .word t) ≡ count (m .activities) (selected m (ready m release t (at m release duration t)))
+  ones-selected t h =
       ap ones (made .words t h)
       ∙ ones-count (machineWord m release duration t) (m .activities) few
       (λ b _ l. bit-high (machineWord m release duration t) (m .activities) b (word-lt m release duration t) l)
-      ∙ count-ext (m .activities) (λ a. runs m release duration t a) (chosen m (ready m release t (at m release duration t)))
-      (λ a l. runs-chosen m release duration t a l)
+      ∙ count-ext (m .activities) (λ a. runs m release duration t a) (selected m (ready m release t (at m release duration t)))
+      (λ a l. runs-selected m release duration t a l)
 
-  active-chosen : (t a : ℕ) → t < m .horizon → a < m .activities
-      → active p t a ≡ chosen m (ready m release t (at m release duration t)) a
-  active-chosen t a h l = same-bit t a h ∙ runs-chosen m release duration t a l
+  active-selected : (t a : ℕ) → t < m .horizon → a < m .activities
+      → active p t a ≡ selected m (ready m release t (at m release duration t)) a
+  active-selected t a h l = same-bit t a h ∙ runs-selected m release duration t a l
 
   -- what is done of an activity once its end is past
   all-done : (t b : ℕ) → b < m .activities → t < m .horizon → p .end b ≤ t → owes (at m release duration t) b ≡ 0
@@ -175,7 +175,7 @@ module _ (m : Model) (release duration : ℕ → ℕ) (p : Plan) (made : Made m 
             (λ u lo hi x. at-end b l .since u (omega (arith, its-end b l)) hi x),
       )
 
-  -- whatever waits is ready, and not chosen
+  -- whatever waits is ready, and not selected
   waits-ready : (t a : ℕ) → t < m .horizon → a < m .activities → Waiting m p t a
       → Ready m release t (at m release duration t) a
   waits-ready t a h l w = record {
@@ -204,10 +204,10 @@ module _ (m : Model) (release duration : ℕ → ℕ) (p : Plan) (made : Made m 
   in-order : (t b a : ℕ) → t < m .horizon → b < m .activities → a < m .activities → Waiting m p t b → T (active p t a)
       → ¬ Before m b a
   in-order t b a h lb la w x =
-      chosen-first m (ready m release t (at m release duration t)) b a lb
+      selected-first m (ready m release t (at m release duration t)) b a lb
       (ready-sound m release t (at m release duration t) b .1 (waits-ready t b h lb w))
-      (λ y. w .clear (subst T (sym (active-chosen t b h lb)) y))
-      (subst T (active-chosen t a h la) x)
+      (λ y. w .clear (subst T (sym (active-selected t b h lb)) y))
+      (subst T (active-selected t a h la) x)
 
   -- rules 21 to 31, given 22 and 23
   pub keeps : ((a : ℕ) → a < m .activities → Within (m .least-duration a) (m .most-duration a) (duration a))
@@ -223,7 +223,7 @@ module _ (m : Model) (release duration : ℕ → ℕ) (p : Plan) (made : Made m 
       temporal = temporal;
       by-data = by-data;
       eligible = eligible;
-      cores = λ t h. omega (arith, ones-chosen t h, chosen-few m (ready m release t (at m release duration t)));
+      cores = λ t h. omega (arith, ones-selected t h, selected-few m (ready m release t (at m release duration t)));
       priority = λ t b h lb _ w a la x.
           elim (decLt (priorityOf m a) (priorityOf m b)) [
             | yes y ↦ absurd (in-order t b a h lb la w x (inl y))
@@ -231,8 +231,8 @@ module _ (m : Model) (release duration : ℕ → ℕ) (p : Plan) (made : Made m 
           ];
     };
     idle = λ t b h lb o w.
-        w .clear (subst T (sym (active-chosen t b h lb))
-        (chosen-all m (ready m release t (at m release duration t)) (omega (arith, ones-chosen t h)) b lb
+        w .clear (subst T (sym (active-selected t b h lb))
+        (selected-all m (ready m release t (at m release duration t)) (omega (arith, ones-selected t h)) b lb
         (ready-sound m release t (at m release duration t) b .1 (waits-ready t b h lb w))));
     tie = λ t b h lb w _ a la x less e. in-order t b a h lb la w x (inr (e, less));
   }

@@ -18,3 +18,4 @@ pub mod Unique
 pub mod Exists
 pub mod NumbersLaws
 pub mod LinesLaws
+pub mod RowLaws

@@ -14,7 +14,7 @@ use lib.Seq.{getD-append-seam, getD-at}
 use borrow.Author.Tests.{eq-eqb}
 use Rattle.schedule.specs.Bounded.{all, count, table, bit}
 use Rattle.schedule.specs.Model.{Model, temporally, byData}
-use Rattle.schedule.specs.Machine.{State, owes, endOf, endedBy, ready, chosen, wordAt, initial, step, stateAt, machineWord}
+use Rattle.schedule.specs.Machine.{State, owes, endOf, endedBy, ready, selected, wordAt, initial, step, stateAt, machineWord}
 use Rattle.laws.proofs.Tests.{tests, below-suc}
 use Rattle.laws.proofs.Counting.{decT, T-true, T-false, weight, one-if, zero-if, count-suc, count-zero}
 use Rattle.laws.proofs.Words.{bit-wordOf, bit-high, wordOf-lt}
@@ -84,19 +84,19 @@ module _ (m : Model) (release duration : ℕ → ℕ) where
   unfolding stateAt step machineWord
   end-next t a l = getD-table (m .activities) _ a l
 
-  -- the active are the chosen
-  pub runs-chosen : (t a : ℕ) → a < m .activities → runs t a ≡ chosen m (ready m release t (at t)) a
+  -- the active are the selected
+  pub runs-selected : (t a : ℕ) → a < m .activities → runs t a ≡ selected m (ready m release t (at t)) a
   unfolding machineWord wordAt
-  runs-chosen t a l = bit-wordOf (m .activities) (chosen m (ready m release t (at t))) a l
+  runs-selected t a l = bit-wordOf (m .activities) (selected m (ready m release t (at t))) a l
 
   pub word-lt : (t : ℕ) → machineWord m release duration t < 2 ^ m .activities
   unfolding machineWord wordAt
-  word-lt t = wordOf-lt (m .activities) (chosen m (ready m release t (at t)))
+  word-lt t = wordOf-lt (m .activities) (selected m (ready m release t (at t)))
 
   pub runs-ready : (t a : ℕ) → a < m .activities → T (runs t a) → Ready m release t (at t) a
-  unfolding chosen
+  unfolding selected
   runs-ready t a l x =
-      let y : T (chosen m (ready m release t (at t)) a) = subst T (runs-chosen t a l) x in
+      let y : T (selected m (ready m release t (at t)) a) = subst T (runs-selected t a l) x in
       let z = simp tests at y in
       ready-sound m release t (at t) a .0 (z .0)
 

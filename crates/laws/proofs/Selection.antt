@@ -11,7 +11,7 @@ use mathlib.Core.Path.{_≡_, sym, subst, _∙_}
 use lib.Dec.{T, eqb, ltb, ltb→lt, lt→ltb}
 use Rattle.schedule.specs.Bounded.{count}
 use Rattle.schedule.specs.Model.{Model, priorityOf}
-use Rattle.schedule.specs.Machine.{before, rank, chosen}
+use Rattle.schedule.specs.Machine.{before, rank, selected}
 use Rattle.laws.proofs.Tests.{tests, T-and, T-or, below-suc}
 use Rattle.laws.proofs.Counting.{decT, T-ext, count-mono, count-less, count-union, count-single, count-none}
 
@@ -84,13 +84,13 @@ module _ (m : Model) (rdy : ℕ → Bool) where
       (λ i _ t. let s = ahead-says b i t in ahead-is a i (s .0) (before-trans m i b a (s .1) h))
       b l (ahead-is a b r h) (λ t. before-irreflexive m b (ahead-says b b t .1))
 
-  chosen-says : (a : ℕ) → T (chosen m rdy a) → T (rdy a) × (rank m rdy a < m .cores)
-  unfolding chosen
-  chosen-says a t = simp tests at t
+  selected-says : (a : ℕ) → T (selected m rdy a) → T (rdy a) × (rank m rdy a < m .cores)
+  unfolding selected
+  selected-says a t = simp tests at t
 
-  chosen-is : (a : ℕ) → T (rdy a) → rank m rdy a < m .cores → T (chosen m rdy a)
-  unfolding chosen
-  chosen-is a r h = T-and (rdy a) (ltb (rank m rdy a) (m .cores)) .1 (r, lt→ltb _ _ h)
+  selected-is : (a : ℕ) → T (rdy a) → rank m rdy a < m .cores → T (selected m rdy a)
+  unfolding selected
+  selected-is a r h = T-and (rdy a) (ltb (rank m rdy a) (m .cores)) .1 (r, lt→ltb _ _ h)
 
   -- the ready whose rank is below k
   within-first : ℕ → ℕ → Bool
@@ -135,33 +135,33 @@ module _ (m : Model) (rdy : ℕ → Bool) where
           → T (rdy j) × (rank m rdy j ≡ k) → i ≡ j
       one i j li lj hi hj = rank-tells i j li lj (hi .0) (hj .0) (hi .1 ∙ sym (hj .1))
 
-  -- "The first c": no more than c are chosen
-  pub chosen-few : count (m .activities) (chosen m rdy) ≤ m .cores
-  unfolding chosen within-first
-  chosen-few = first-few (m .cores)
+  -- "The first c": no more than c are selected
+  pub selected-few : count (m .activities) (selected m rdy) ≤ m .cores
+  unfolding selected within-first
+  selected-few = first-few (m .cores)
 
-  -- by rank: those before a ready activity are chosen, so its rank is below their number
-  chosen-below : (k : ℕ) → count (m .activities) (chosen m rdy) < m .cores
-      → (a : ℕ) → a < m .activities → T (rdy a) → rank m rdy a < k → T (chosen m rdy a)
+  -- by rank: those before a ready activity are selected, so its rank is below their number
+  selected-below : (k : ℕ) → count (m .activities) (selected m rdy) < m .cores
+      → (a : ℕ) → a < m .activities → T (rdy a) → rank m rdy a < k → T (selected m rdy a)
   unfolding rank ahead
-  chosen-below zero few a l r b = absurd (omega arith)
-  chosen-below (suc k) few a l r b = chosen-is a r (omega (arith, fewer (chosen-below k few)))
+  selected-below zero few a l r b = absurd (omega arith)
+  selected-below (suc k) few a l r b = selected-is a r (omega (arith, fewer (selected-below k few)))
     where
-      fewer : ((i : ℕ) → i < m .activities → T (rdy i) → rank m rdy i < k → T (chosen m rdy i))
-          → rank m rdy a ≤ count (m .activities) (chosen m rdy)
+      fewer : ((i : ℕ) → i < m .activities → T (rdy i) → rank m rdy i < k → T (selected m rdy i))
+          → rank m rdy a ≤ count (m .activities) (selected m rdy)
       fewer ih =
-          count-mono (m .activities) (ahead a) (chosen m rdy)
+          count-mono (m .activities) (ahead a) (selected m rdy)
           (λ i li t. let h = ahead-says a i t in ih i li (h .0) (omega (arith, rank-less i a li (h .0) (h .1))))
 
-  -- "or all if fewer": where fewer than c are chosen, every ready activity is
-  pub chosen-all : count (m .activities) (chosen m rdy) < m .cores
-      → (a : ℕ) → a < m .activities → T (rdy a) → T (chosen m rdy a)
-  chosen-all few a l r = chosen-below (suc (rank m rdy a)) few a l r (omega arith)
+  -- "or all if fewer": where fewer than c are selected, every ready activity is
+  pub selected-all : count (m .activities) (selected m rdy) < m .cores
+      → (a : ℕ) → a < m .activities → T (rdy a) → T (selected m rdy a)
+  selected-all few a l r = selected-below (suc (rank m rdy a)) few a l r (omega arith)
 
-  -- a ready activity that is not chosen ranks before no chosen one
-  pub chosen-first : (b a : ℕ) → b < m .activities → T (rdy b) → (¬ T (chosen m rdy b)) → T (chosen m rdy a) → ¬ Before m b a
-  chosen-first b a l r not-chosen t h =
-      not-chosen (chosen-is b r (omega (arith, rank-less b a l r h, chosen-says a t .1)))
+  -- a ready activity that is not selected ranks before no selected one
+  pub selected-first : (b a : ℕ) → b < m .activities → T (rdy b) → (¬ T (selected m rdy b)) → T (selected m rdy a) → ¬ Before m b a
+  selected-first b a l r not-selected t h =
+      not-selected (selected-is b r (omega (arith, rank-less b a l r h, selected-says a t .1)))
 
   -- What rules 28 to 31 say of a tick whose active are `act`: they are ready, they are at most c, and a ready one that
   -- is not active ranks before none of c active ones and stands beside no fewer than c.
@@ -172,10 +172,10 @@ module _ (m : Model) (rdy : ℕ → Bool) where
     pub in-order : count (m .activities) act ≡ m .cores → (b a : ℕ) → b < m .activities → a < m .activities
         → T (rdy b) → (¬ T (act b)) → T (act a) → ¬ Before m b a
 
-  -- those active are the chosen
-  pub picked-chosen : (act : ℕ → Bool) → Picked act → (a : ℕ) → a < m .activities → act a ≡ chosen m rdy a
+  -- those active are the selected
+  pub picked-selected : (act : ℕ → Bool) → Picked act → (a : ℕ) → a < m .activities → act a ≡ selected m rdy a
   unfolding rank ahead
-  picked-chosen act p a l = T-ext (act a) (chosen m rdy a) there back
+  picked-selected act p a l = T-ext (act a) (selected m rdy a) there back
     where
       n : ℕ
       n = m .activities
@@ -192,9 +192,9 @@ module _ (m : Model) (rdy : ℕ → Bool) where
           (λ all. absurd (p .in-order all i a li l (h .0) idle t (h .1))) full)
           (decT (act i))
 
-      there : T (act a) → T (chosen m rdy a)
+      there : T (act a) → T (selected m rdy a)
       there t =
-          chosen-is a (p .are-ready a l t)
+          selected-is a (p .are-ready a l t)
           (omega (
             arith,
             p .at-most,
@@ -207,9 +207,9 @@ module _ (m : Model) (rdy : ℕ → Bool) where
           ⊎-elim (λ h. ahead-is a i (p .are-ready i li t) h) (λ h. absurd (p .in-order all a i l li r idle t h))
           (before-total m i a (λ e. idle (subst (λ x. T (act x)) e t)))
 
-      back : T (chosen m rdy a) → T (act a)
+      back : T (selected m rdy a) → T (act a)
       back t =
-          let h = chosen-says a t in
+          let h = selected-says a t in
           ⊎-elim (λ y. y)
           (λ idle. ⊎-elim (λ few. p .not-idle few a l (h .0))
           (λ all. absurd (omega (arith, h .1, all, count-mono n act (ahead a) (others idle (h .0) all)))) full)

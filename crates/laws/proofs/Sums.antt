@@ -3,11 +3,13 @@
 -- Assumes nothing.
 use Prim.Native.Nat.{ℕ, zero, suc, _+_, _-_, _*_, _≤_, _<_, max, min}
 use native.Mathlib.Omega.{arith}
+use mathlib.Core.Logic.{⊎-elim}
 use mathlib.Core.Path.{_≡_, refl, ap, ap₂}
 use Rattle.schedule.specs.Bounded.{total, greatest, least, ones}
 use Rattle.schedule.specs.Model.{Model}
 use Rattle.schedule.specs.Plan.{Plan}
 use Rattle.schedule.specs.Answers.{Figures, figures}
+use Rattle.laws.proofs.Tests.{below-suc}
 
 pub greatest-ext : (n : ℕ) (f g : ℕ → ℕ) → ((i : ℕ) → i < n → f i ≡ g i) → greatest n f ≡ greatest n g
 unfolding greatest
@@ -18,6 +20,14 @@ pub greatest-bound : (n : ℕ) (f : ℕ → ℕ) (x : ℕ) → ((i : ℕ) → i 
 unfolding greatest
 greatest-bound zero f x h = omega arith
 greatest-bound (suc n) f x h = omega (arith, greatest-bound n f x (λ i l. h i (omega arith)), h n (omega arith))
+
+pub greatest-each : (n : ℕ) (f : ℕ → ℕ) (i : ℕ) → i < n → f i ≤ greatest n f
+unfolding greatest
+greatest-each zero f i h = absurd (omega arith)
+greatest-each (suc n) f i h = ⊎-elim
+    (λ (l : i < n). omega (arith, greatest-each n f i l))
+    (λ (e : i ≡ n). omega (arith, ap f e))
+    (below-suc i n h)
 
 pub total-ext : (n : ℕ) (f g : ℕ → ℕ) → ((i : ℕ) → i < n → f i ≡ g i) → total n f ≡ total n g
 unfolding total

@@ -13,14 +13,14 @@ use lib.Pow.{pow-mono}
 use Rattle.schedule.specs.Bounded.{count, bit, ones}
 use Rattle.schedule.specs.Model.{Model, priorityOf, temporally, byData}
 use Rattle.schedule.specs.Plan.{Plan, active}
-use Rattle.schedule.specs.Machine.{State, owes, endOf, ready, chosen, stateAt, machineWord, machineStart, machineEnd, machineOwes}
+use Rattle.schedule.specs.Machine.{State, owes, endOf, ready, selected, stateAt, machineWord, machineStart, machineEnd, machineOwes}
 use Rattle.schedule.specs.Checks.{countOf, efe, Waiting, Window}
 use Rattle.schedule.specs.Keeps.{KeepsPlain, KeepsStrict}
 use Rattle.laws.proofs.Counting.{decT, T-false, weight, one-if, zero-if, count-suc, count-zero, count-some, count-grows, count-stops, count-between}
 use Rattle.laws.proofs.Words.{bit-high, word-ext, ones-count}
-use Rattle.laws.proofs.Selection.{Before, Picked, picked-chosen}
+use Rattle.laws.proofs.Selection.{Before, Picked, picked-selected}
 use Rattle.laws.proofs.Lowest.{lowest-unique}
-use Rattle.laws.proofs.MachineLaws.{Ready, ready-sound, at, runs, owes-first, owes-next, runs-chosen, word-lt, end-idle, end-last}
+use Rattle.laws.proofs.MachineLaws.{Ready, ready-sound, at, runs, owes-first, owes-next, runs-selected, word-lt, end-idle, end-last}
 use Rattle.laws.proofs.EfeLaws.{Ordered, efe-release, efe-bound}
 
 -- What a plan is beside a model and the machine's releases and durations: its words are 32 bits wide with no bit from
@@ -150,7 +150,7 @@ module _ (m : Model) (release duration : ℕ → ℕ) (p : Plan) (w : Beside m r
     same-bit : (a : ℕ) → a < m .activities → active p t a ≡ runs m release duration t a
     unfolding s
     same-bit a l =
-        picked-chosen m (ready m release t s) (λ a. active p t a) picked a l ∙ sym (runs-chosen m release duration t a l)
+        picked-selected m (ready m release t s) (λ a. active p t a) picked a l ∙ sym (runs-selected m release duration t a l)
 
     -- the last active tick is the one before the end
     last-tick : (a : ℕ) → a < m .activities → T (active p t a) → done (suc t) a ≡ duration a → p .end a ≡ t + 1

@@ -8,7 +8,7 @@ use mathlib.Core.Path.{_≡_}
 use lib.Dec.{eqb, ltb}
 use lib.ListN.{length, drop, replicate}
 use Rattle.schedule.specs.Bounded.{total, greatest, least, ones}
-use Rattle.schedule.specs.Rule.{Rule, Refusal, firstBreak}
+use Rattle.schedule.specs.Rule.{Rule, Refusal, firstBreak, AllHold}
 use Rattle.schedule.specs.Model.{Model, model, modelForm}
 use Rattle.schedule.specs.Choice.{Choice, choice, choiceForm}
 use Rattle.schedule.specs.Plan.{Plan, plan, planForm, planLength, planBytes}
@@ -118,6 +118,18 @@ bufferAfter (refused x) m q buffer =
 -- the whole buffer after the run
 unfoldable pub runBuffer : List ℕ → List ℕ → List ℕ → List ℕ
 runBuffer s q buffer = bufferAfter (runAnswer s q (length buffer)) (model s) (choice q) buffer
+
+-- "A model that passes 1 to 7 meets its form rules"
+abbrev pub MeetsForm : List ℕ → Type 0
+MeetsForm s = AllHold (modelForm s)
+
+-- "a plan that then passes 8 to 14 is well-formed"
+abbrev pub WellFormed : List ℕ → List ℕ → Type 0
+WellFormed s r = AllHold (planForm (model s) r)
+
+-- "a choice record that then passes 8 to 13 passes its tests"
+abbrev pub PassesTests : List ℕ → List ℕ → Type 0
+PassesTests s q = AllHold (choiceForm (model s) q)
 
 -- "A plan has the choices of such a record when its releases and periods equal the record's and, for each activity a,
 -- count(a) is the chosen duration of a"

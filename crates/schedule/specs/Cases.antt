@@ -86,7 +86,7 @@ unfolding Bounded.all Bounded.count Bounded.total Bounded.greatest Bounded.least
     Model.activityRule Model.maskRule Model.modelForm
     Choice.choice Choice.choiceCounts Choice.rangeRule Choice.durationRule Choice.choiceForm
     Plan.plan Plan.planBytes Plan.planCounts Plan.wordRule Plan.planForm
-    Machine.endedBy Machine.ready Machine.before Machine.rank Machine.chosen Machine.wordAt Machine.initial Machine.step
+    Machine.endedBy Machine.ready Machine.before Machine.rank Machine.selected Machine.wordAt Machine.initial Machine.step
     Machine.stateAt Machine.machineWord Machine.machineStart Machine.machineEnd Machine.machineOwes
     Checks.countOf Checks.efeFrom Checks.efes Checks.efe Checks.waits Checks.window Checks.deadlineRule
     Checks.rule21 Checks.rule22 Checks.rule23 Checks.rule24 Checks.rule25 Checks.rule26 Checks.rule27 Checks.rule28

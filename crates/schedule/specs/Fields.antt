@@ -9,7 +9,7 @@ unfoldable pub field : List ℕ → ℕ → ℕ → ℕ
 field s at zero = 0
 field s at (suc k) = field s at k * 256 + getD s (at + k) 0
 
--- a number as k bytes, the first the most significant
+-- a number below 256 to the power k as k bytes, the first the most significant
 unfoldable pub bytes : ℕ → ℕ → List ℕ
 bytes zero v = []
 bytes (suc k) v = bytes k (v / 256) ++ (v % 256 ∷ [])

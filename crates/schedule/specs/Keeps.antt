@@ -16,7 +16,7 @@ pub record KeepsPlain (m : Model) (p : Plan) : Type 0 where
   pub duration : (a : ℕ) → a < m .activities → Within (m .least-duration a) (m .most-duration a) (countOf m p a)
   -- 23 a thread with a period has end ≤ that period
   pub deadline : (a : ℕ) → a < m .activities → ¬ (p .period (m .thread a) ≡ 0) → p .end a ≤ p .period (m .thread a)
-  -- 24 end − start ≥ count
+  -- 24 end − start ≥ count, with no truncated difference
   pub span : (a : ℕ) → a < m .activities → p .start a + countOf m p a ≤ p .end a
   -- 25 start ≥ end + delay of each temporal predecessor
   pub temporal : (a b : ℕ) → a < m .activities → b < m .activities → T (temporally m b a)

@@ -22,7 +22,7 @@ owes s a = getD (s .owed) a 0
 abbrev pub endOf : State → ℕ → ℕ
 endOf s a = getD (s .ends) a 0
 
--- activity b has ended, and by tick t this many ticks have passed since
+-- activity b has ended, and its end and a delay have passed by tick t
 unfoldable pub endedBy : State → ℕ → ℕ → ℕ → Bool
 endedBy s b delay t = eqb (owes s b) 0 && leb (endOf s b + delay) t
 
@@ -44,12 +44,12 @@ unfoldable pub rank : Model → (ℕ → Bool) → ℕ → ℕ
 rank m rdy a = count (m .activities) (λ b. rdy b && before m b a)
 
 -- "The first c, or all if fewer": a is ready, and its place in the ranking is below c
-unfoldable pub chosen : Model → (ℕ → Bool) → ℕ → Bool
-chosen m rdy a = rdy a && ltb (rank m rdy a) (m .cores)
+unfoldable pub selected : Model → (ℕ → Bool) → ℕ → Bool
+selected m rdy a = rdy a && ltb (rank m rdy a) (m .cores)
 
 -- "are the word's bits"
 unfoldable pub wordAt : Model → (ℕ → ℕ) → ℕ → State → ℕ
-wordAt m release t s = wordOf (m .activities) (chosen m (ready m release t s))
+wordAt m release t s = wordOf (m .activities) (selected m (ready m release t s))
 
 -- "At the beginning t = 0 and each activity owes its chosen duration"
 unfoldable pub initial : Model → (ℕ → ℕ) → State
@@ -72,11 +72,11 @@ stateAt m release duration (suc t) =
     let s : State = stateAt m release duration t in
     step m t (wordAt m release t s) s
 
--- the word of tick t, finished or not
+-- the word of tick t, for every t, whether or not the run succeeds
 unfoldable pub machineWord : Model → (ℕ → ℕ) → (ℕ → ℕ) → ℕ → ℕ
 machineWord m release duration t = wordAt m release t (stateAt m release duration t)
 
--- "Start is the first active tick"
+-- "Start is the first active tick"; H where there is none, which a run that succeeds never has
 unfoldable pub machineStart : Model → (ℕ → ℕ) → (ℕ → ℕ) → ℕ → ℕ
 machineStart m release duration a = lowest (m .horizon) (λ t. bit (machineWord m release duration t) a)
 
