@@ -1,1 +1,10 @@
 pub mod WaitLaws
+pub mod TickLaws
+pub mod TableLaws
+pub mod EfeTable
+pub mod MaskRow
+pub mod ActivityLaws
+pub mod SumLaws
+pub mod ListLaws
+pub mod GridLaws
+pub mod CheckLaws

@@ -1,21 +1,25 @@
 -- A rule's broken places at a tick, read off masks of waiting and outranking activities.
 -- Assumes nothing.
-use Prim.Native.Nat.{ℕ, zero, suc, _+_, _≤_, _<_, max}
+use Prim.Native.Nat.{ℕ, zero, suc, _+_, _^_, _≤_, _<_, max}
+use native.Mathlib.Nat.{lt-of-le-of-lt}
+use native.Mathlib.Numerals.{add-one}
 use native.Mathlib.Omega.{arith}
-use mathlib.Core.Bool.{Bool, true, false, _&&_, not, cond}
+use mathlib.Core.Bool.{Bool, true, false, _&&_, not, cond, _||_, Bool·not-not, or-false}
 use mathlib.Core.Logic.{_↔_, ⊎-elim}
 use mathlib.Core.Path.{_≡_, refl, sym, subst, ap, ap₂, _∙_}
+use lib.Bits.{bitAnd, bitOr, and-le-l}
 use lib.Dec.{T, leb, ltb, eqb}
-use Rattle.schedule.specs.Bounded.{all, greatest, ones, bit, wordOf}
+use Rattle.schedule.specs.Bounded.{all, greatest, ones, bit, wordOf, _⇒_}
 use Rattle.schedule.specs.Model.{Model, priorityOf, temporally, byData}
 use Rattle.schedule.specs.Plan.{Plan, active}
 use Rattle.schedule.specs.Checks.{efe, Waiting, waits, rule28, rule29, rule30, rule31}
 use Rattle.laws.proofs.Tests.{tests, T-and, T-not, T-all, T-leb, T-ltb}
-use Rattle.laws.proofs.Counting.{decT, T-ext}
+use Rattle.laws.proofs.Counting.{decT, T-ext, all-ext}
 use Rattle.laws.proofs.Sums.{greatest-bound, greatest-each}
 use Rattle.laws.proofs.Sound.{waits-sound}
-use Rattle.laws.proofs.Words.{wordOf-ext, bit-wordOf}
+use Rattle.laws.proofs.Words.{wordOf-ext, wordOf-lt, word-ext, bit-wordOf}
 use Rattle.laws.proofs.RowLaws.{brokenMask}
+use Rattle.bits.proofs.WordLaws.{bit-and, bit-or, zero-bits}
 use Rattle.checks.specs.Tables.{some, waitsFrom, waitingMask, aboveMask, levelMask, outranking}
 
 -- a term that counts only where a test passes
@@ -68,3 +72,156 @@ waits-when m p t a = T-ext _ _ there back
             greatest-each (m .activities) (λ b. cond (byData m b a) (p .end b) 0) b l,
           );
         })
+
+and-words : (n k : ℕ) (p q : ℕ → Bool) → n ≤ k → bitAnd (wordOf n p) (wordOf k q) ≡ wordOf n (λ b. p b && q b)
+and-words n k p q h =
+    word-ext n (bitAnd (wordOf n p) (wordOf k q)) (wordOf n (λ b. p b && q b))
+    (lt-of-le-of-lt (and-le-l (wordOf n p) (wordOf k q)) (wordOf-lt n p)) (wordOf-lt n (λ b. p b && q b))
+    (λ b l. bit-and (wordOf n p) (wordOf k q) b
+    ∙ ap₂ _&&_ (bit-wordOf n p b l) (bit-wordOf k q b (omega arith))
+    ∙ sym (bit-wordOf n (λ b. p b && q b) b l))
+
+-- a word of nothing
+word-none : (n : ℕ) (p : ℕ → Bool) → ((b : ℕ) → b < n → p b ≡ false) → wordOf n p ≡ 0
+word-none n p h = zero-bits n (wordOf n p) (wordOf-lt n p) .1 (λ b l. bit-wordOf n p b l ∙ h b l)
+
+-- where a test guards a mask: all of it, or nothing
+guarded : (n : ℕ) (t : Bool) (p : ℕ → Bool) → wordOf n (λ b. not (t ⇒ p b)) ≡ cond t (wordOf n (λ b. not (p b))) 0
+guarded n true p = refl
+guarded n false p = word-none n (λ b. false) (λ b l. refl)
+
+not-implies : (a b : Bool) → not (a ⇒ b) ≡ (a && not b)
+not-implies true b = refl
+not-implies false b = refl
+
+-- 30: with fewer than c ones, whatever waits breaks the rule
+pub idle-mask : (m : Model) (p : Plan) (t : ℕ)
+    → brokenMask (rule30 m p) t ≡ cond (ltb (ones (p .word t)) (m .cores)) (waitingMask m p t) 0
+unfolding brokenMask rule30 waitingMask
+idle-mask m p t =
+    guarded (m .activities) (ltb (ones (p .word t)) (m .cores)) (λ b. not (waits m p t b))
+    ∙ ap (λ (w : ℕ). cond (ltb (ones (p .word t)) (m .cores)) w 0)
+    (wordOf-ext (m .activities) _ _ (λ b _. Bool·not-not (waits m p t b)))
+
+-- some active activity that b outranks, by the test that 29 or 31 makes of the two
+some-not : (n : ℕ) (w : ℕ) (q : ℕ → Bool) → not (all n (λ a. bit w a ⇒ not (q a))) ≡ some n (λ a. bit w a && q a)
+unfolding some
+some-not n w q = ap not (all-ext n _ _ (λ a _. pointwise (bit w a) (q a)))
+  where
+    pointwise : (a b : Bool) → (a ⇒ not b) ≡ not (a && b)
+    pointwise true b = refl
+    pointwise false b = refl
+
+pub some-ext : (n : ℕ) (p q : ℕ → Bool) → ((i : ℕ) → i < n → p i ≡ q i) → some n p ≡ some n q
+unfolding some
+some-ext n p q h = ap not (all-ext n _ _ (λ i l. ap not (h i l)))
+
+-- what breaks 29 or 31 with exactly c ones: the waiting that stand in the mask of some active activity, where `beats a b`
+-- is the test of the two that the rule makes, and mask a holds the b that pass it
+contested : (m : Model) (p : Plan) (t : ℕ) → m .activities ≤ 32 → (full : Bool) (mask : ℕ → ℕ) (beats : ℕ → ℕ → Bool)
+    → ((a b : ℕ) → a < m .activities → b < m .activities → bit (mask a) b ≡ beats a b)
+    → wordOf (m .activities)
+    (λ b. not (full ⇒ waits m p t b ⇒ all (m .activities) (λ a. active p t a ⇒ not (beats a b))))
+    ≡ cond full (bitAnd (waitingMask m p t) (outranking (m .activities) mask (p .word t))) 0
+unfolding waitingMask outranking
+contested m p t few full mask beats h =
+    guarded (m .activities) full (λ b. waits m p t b ⇒ all (m .activities) (λ a. active p t a ⇒ not (beats a b)))
+    ∙ ap (λ (w : ℕ). cond full w 0)
+    (wordOf-ext (m .activities) _ _ (λ b lb.
+    not-implies (waits m p t b) (all (m .activities) (λ a. active p t a ⇒ not (beats a b)))
+    ∙ ap (λ (x : Bool). waits m p t b && x)
+    (some-not (m .activities) (p .word t) (λ a. beats a b)
+    ∙ some-ext (m .activities) _ _ (λ a la. ap (λ (x : Bool). active p t a && x) (sym (h a b la lb)))))
+    ∙ sym (and-words (m .activities) 32 (waits m p t)
+    (λ b. some (m .activities) (λ a. active p t a && bit (mask a) b)) few))
+
+pub leb-not-ltb : (x y : ℕ) → leb x y ≡ not (ltb y x)
+leb-not-ltb x y = T-ext _ _ (λ h. simp tests (λ l. omega (arith, T-leb x y .0 h))) (λ h. T-leb x y .1 (at-most (simp tests at h)))
+  where
+    at-most : (¬ (y < x)) → x ≤ y
+    at-most n = omega arith
+
+-- 29: with exactly c ones, the waiting with a priority above some active one's
+pub preemption-mask : (m : Model) (p : Plan) (t : ℕ) → m .activities ≤ 32
+    → brokenMask (rule29 m p) t
+    ≡ cond (eqb (ones (p .word t)) (m .cores)) (bitAnd (waitingMask m p t) (outranking (m .activities) (aboveMask m) (p .word t))) 0
+unfolding brokenMask rule29 aboveMask
+preemption-mask m p t few =
+    wordOf-ext (m .activities) _ _ (λ b _. ap (λ (x : Bool). not (eqb (ones (p .word t)) (m .cores) ⇒ waits m p t b ⇒ x))
+    (all-ext (m .activities) _ _ (λ a _. ap (λ (x : Bool). active p t a ⇒ x) (leb-not-ltb (priorityOf m b) (priorityOf m a)))))
+    ∙ contested m p t few (eqb (ones (p .word t)) (m .cores)) (aboveMask m) (λ a b. ltb (priorityOf m a) (priorityOf m b))
+    (λ a b _ lb. bit-wordOf (m .activities) (λ b. ltb (priorityOf m a) (priorityOf m b)) b lb)
+
+swapped : (a b c : Bool) → (a ⇒ b ⇒ c) ≡ (b ⇒ a ⇒ c)
+swapped true b c = refl
+swapped false true c = refl
+swapped false false c = refl
+
+not-both : (a b : Bool) → (a ⇒ not b) ≡ not (b && a)
+not-both true true = refl
+not-both true false = refl
+not-both false true = refl
+not-both false false = refl
+
+-- 31: with exactly c ones, the waiting with the priority of some active activity with a larger number
+pub tie-mask : (m : Model) (p : Plan) (t : ℕ) → m .activities ≤ 32
+    → brokenMask (rule31 m p) t
+    ≡ cond (eqb (ones (p .word t)) (m .cores)) (bitAnd (waitingMask m p t) (outranking (m .activities) (levelMask m) (p .word t))) 0
+unfolding brokenMask rule31 levelMask
+tie-mask m p t few =
+    wordOf-ext (m .activities) _ _ (λ b _. ap not
+    (swapped (waits m p t b) (eqb (ones (p .word t)) (m .cores)) _
+    ∙ ap (λ (x : Bool). eqb (ones (p .word t)) (m .cores) ⇒ waits m p t b ⇒ x)
+    (all-ext (m .activities) _ _ (λ a _. ap (λ (x : Bool). active p t a ⇒ x)
+    (not-both (ltb b a) (eqb (priorityOf m b) (priorityOf m a)))))))
+    ∙ contested m p t few (eqb (ones (p .word t)) (m .cores)) (levelMask m)
+    (λ a b. eqb (priorityOf m b) (priorityOf m a) && ltb b a)
+    (λ a b _ lb. bit-wordOf (m .activities) (λ b. eqb (priorityOf m b) (priorityOf m a) && ltb b a) b lb)
+
+-- 28: the one place of the row is broken
+pub cores-mask : (m : Model) (p : Plan) (t : ℕ)
+    → brokenMask (rule28 m p) t ≡ cond (leb (ones (p .word t)) (m .cores)) 0 1
+unfolding brokenMask rule28 wordOf
+cores-mask m p t = one (leb (ones (p .word t)) (m .cores))
+  where
+    one : (b : Bool) → 0 + cond (not b) (2 ^ 0) 0 ≡ cond b 0 1
+    one true = refl
+    one false = refl
+
+some-next : (n : ℕ) (p : ℕ → Bool) → some (n + 1) p ≡ (some n p || p n)
+unfolding some all
+some-next n p = rw (add-one n) (told (all n (λ i. not (p i))) (p n))
+  where
+    told : (a b : Bool) → not (a && not b) ≡ (not a || b)
+    told true b = Bool·not-not b
+    told false b = refl
+
+some-start : (p : ℕ → Bool) → some 0 p ≡ false
+unfolding some all
+some-start p = refl
+
+-- a mask joined where it counts: the bits of both
+pub join-next : (n mask : ℕ) (word : ℕ) (masks : ℕ → ℕ) (counts : Bool)
+    → cond counts (bitOr (outranking n masks word) mask) (outranking n masks word) < 2 ^ 32
+    → mask ≡ masks n → counts ≡ bit word n
+    → cond counts (bitOr (outranking n masks word) mask) (outranking n masks word) ≡ outranking (n + 1) masks word
+unfolding outranking
+join-next n mask word masks counts h e k =
+    word-ext 32 _ _ h (wordOf-lt 32 _) (λ b l. bits-of counts b l
+    ∙ ap (λ (x : Bool). f b || x) (ap₂ (λ (x : Bool) (y : ℕ). x && bit y b) k e)
+    ∙ sym (some-next n (λ a. bit word a && bit (masks a) b))
+    ∙ sym (bit-wordOf 32 _ b l))
+  where
+    f : ℕ → Bool
+    f b = some n (λ a. bit word a && bit (masks a) b)
+
+    bits-of : (c : Bool) (b : ℕ) → b < 32 → bit (cond c (bitOr (wordOf 32 f) mask) (wordOf 32 f)) b ≡ (f b || (c && bit mask b))
+    bits-of true b l = bit-or (wordOf 32 f) mask b ∙ ap (λ (x : Bool). x || bit mask b) (bit-wordOf 32 f b l)
+    bits-of false b l = bit-wordOf 32 f b l ∙ sym (or-false (f b))
+
+pub join-start : (masks : ℕ → ℕ) (word : ℕ) → outranking 0 masks word ≡ 0
+unfolding outranking
+join-start masks word = word-none 32 (λ b. some 0 (λ a. bit word a && bit (masks a) b)) (λ b l. some-start (λ a. bit word a && bit (masks a) b))
+
+pub ltb-not-leb : (x y : ℕ) → ltb x y ≡ not (leb y x)
+ltb-not-leb x y = sym (Bool·not-not (ltb x y)) ∙ ap not (sym (leb-not-ltb y x))

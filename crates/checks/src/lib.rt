@@ -1,0 +1,153 @@
+// The plain and the strict check.
+mod activity;
+mod figures;
+mod tables;
+mod tick;
+
+use activity::ActivityRule;
+use activity::over_activities;
+use figures::figures_of;
+use records::Pass;
+use records::model::ModelRead;
+use records::plan::PlanRead;
+use schedule::Place;
+use schedule::Refusal;
+use schedule::RuleRefusal;
+use schedule::Verdict;
+use tables::Entry;
+use tick::TickRule;
+use tick::over_ticks;
+ghost use mathlib.Core.Path.{_≡_};
+ghost use mathlib.Core.Option.{some};
+ghost use Rattle.schedule.specs.Rule.{firstBreak};
+ghost use Rattle.schedule.specs.Model.{model};
+ghost use Rattle.schedule.specs.Plan.{plan};
+ghost use Rattle.schedule.specs.Answers.{answer, figures, plainVerdict, strictVerdict};
+ghost use Rattle.schedule.specs.Numbers.{ruleNumber, verdictNumbers};
+ghost use Rattle.laws.proofs.Formed.{Formed};
+ghost use Rattle.checks.specs.Tables.{Timed};
+ghost use Rattle.checks.specs.Rules.{Counted, activityRules, plainTicks, strictTicks, gridRules, checksOf};
+ghost use Rattle.records.specs.Reads.{passNumbers};
+
+// A rule broken at a place.
+fn refused(why: RuleRefusal, a: u32, b: u32) -> Pass
+    ensures { λ r. ⌜ passNumbers r ≡ some (record { number = ruleNumber why; A = a; B = b }) ⌝ }
+{
+    Pass::Refused(Refusal::Rule(why, Place { a, b }))
+}
+
+// Rules 21 to 27, "each tried over everything before the next".
+fn activity_rules(s: &[u8], r: &[u8], counts: &[u32; 32], finishes: &[u32; 32]) -> Pass
+    requires { ⌜ Counted (model (now s)) (plan (now r)) (now counts) (now finishes) ⌝ }
+    ensures { λ x. ⌜ passNumbers x ≡ firstBreak (activityRules (model (now (s .entry))) (plan (now (r .entry)))) ⌝ }
+{
+    let window = over_activities(ActivityRule::Window, s, r, counts, finishes);
+    if let Pass::Refused(_) = window {
+        return window;
+    }
+    let count = over_activities(ActivityRule::Count, s, r, counts, finishes);
+    if let Pass::Refused(_) = count {
+        return count;
+    }
+    let deadline = over_activities(ActivityRule::Deadline, s, r, counts, finishes);
+    if let Pass::Refused(_) = deadline {
+        return deadline;
+    }
+    let span = over_activities(ActivityRule::Span, s, r, counts, finishes);
+    if let Pass::Refused(_) = span {
+        return span;
+    }
+    let temporal = over_activities(ActivityRule::Temporal, s, r, counts, finishes);
+    if let Pass::Refused(_) = temporal {
+        return temporal;
+    }
+    let data = over_activities(ActivityRule::Data, s, r, counts, finishes);
+    if let Pass::Refused(_) = data {
+        return data;
+    }
+    over_activities(ActivityRule::Eligible, s, r, counts, finishes)
+}
+
+// Rules 28 and 29.
+fn plain_ticks(s: &[u8], r: &[u8], froms: &[u32; 32], ends: &[u32; 32]) -> Pass
+    requires { ⌜ Timed (model (now s)) (plan (now r)) (now froms) (now ends) ⌝ }
+    ensures { λ x. ⌜ passNumbers x ≡ firstBreak (plainTicks (model (now (s .entry))) (plan (now (r .entry)))) ⌝ }
+{
+    let none = [0u32; 32];
+    let cores = over_ticks(TickRule::Cores, s, r, froms, ends, &none);
+    if let Pass::Refused(_) = cores {
+        return cores;
+    }
+    let above = tables::tabulate(Entry::Above, s, r);
+    over_ticks(TickRule::Preemption, s, r, froms, ends, &above)
+}
+
+// Rules 30 and 31: "the strict check goes on".
+fn strict_ticks(s: &[u8], r: &[u8], froms: &[u32; 32], ends: &[u32; 32]) -> Pass
+    requires { ⌜ Timed (model (now s)) (plan (now r)) (now froms) (now ends) ⌝ }
+    ensures { λ x. ⌜ passNumbers x ≡ firstBreak (strictTicks (model (now (s .entry))) (plan (now (r .entry)))) ⌝ }
+{
+    let none = [0u32; 32];
+    let idle = over_ticks(TickRule::Idle, s, r, froms, ends, &none);
+    if let Pass::Refused(_) = idle {
+        return idle;
+    }
+    let level = tables::tabulate(Entry::Level, s, r);
+    over_ticks(TickRule::Tie, s, r, froms, ends, &level)
+}
+
+// The rules of a check on well-formed records, in order.
+fn grid_rules(s: &[u8], r: &[u8], strict: bool) -> Pass
+    requires { ⌜ Formed (model (now s)) ⌝ }
+    ensures { λ x. ⌜ passNumbers x ≡ firstBreak (gridRules strict (model (now (s .entry))) (plan (now (r .entry)))) ⌝ }
+{
+    let counts = tables::tabulate(Entry::Count, s, r);
+    let finishes = tables::finishes(s, r, &counts);
+    let activities = activity_rules(s, r, &counts, &finishes);
+    if let Pass::Refused(_) = activities {
+        return activities;
+    }
+    let ends = tables::tabulate(Entry::End, s, r);
+    let froms = tables::froms(s, &finishes, &counts, &ends);
+    let ticks = plain_ticks(s, r, &froms, &ends);
+    if let Pass::Refused(_) = ticks {
+        return ticks;
+    }
+    if strict {
+        return strict_ticks(s, r, &froms, &ends);
+    }
+    Pass::Holds
+}
+
+// A check of a model's and a plan's bytes: "The model is tried first, in list order".
+fn check(s: &[u8], r: &[u8], strict: bool) -> Verdict
+    ensures { λ x. ⌜ verdictNumbers x ≡ answer (firstBreak (checksOf strict (now (s .entry)) (now (r .entry)))) (figures (model (now (s .entry))) (plan (now (r .entry)))) ⌝ }
+{
+    let read = records::model::read(s);
+    if let ModelRead::Refused(why) = read {
+        return Verdict::Refused(why);
+    }
+    let form = records::plan::read(s, r);
+    if let PlanRead::Refused(why) = form {
+        return Verdict::Refused(why);
+    }
+    let rules = grid_rules(s, r, strict);
+    if let Pass::Refused(why) = rules {
+        return Verdict::Refused(why);
+    }
+    Verdict::Accepted(figures_of(s, r))
+}
+
+// "The plain check": rules 1 to 14 of the two records, then 21 to 29.
+pub fn check_plain(model: &[u8], plan: &[u8]) -> Verdict
+    ensures { λ x. ⌜ verdictNumbers x ≡ plainVerdict (now (model .entry)) (now (plan .entry)) ⌝ }
+{
+    check(model, plan, false)
+}
+
+// "the strict check goes on with 30 and 31".
+pub fn check_strict(model: &[u8], plan: &[u8]) -> Verdict
+    ensures { λ x. ⌜ verdictNumbers x ≡ strictVerdict (now (model .entry)) (now (plan .entry)) ⌝ }
+{
+    check(model, plan, true)
+}

@@ -128,7 +128,7 @@ pub strict-breaks-rule : (s r : List ℕ) (x : Refusal) → AllHold (modelForm s
 strict-breaks-rule s r x hm hp =
     verdict-refused _ (strictVerdict s r) _ x (strictRules-sound (model s) (plan r)) (strict-past-form s r hm hp)
 
--- Rules 21 to 29 hold, as a list, exactly where the plan keeps them as specs/Keeps writes them out.
+-- Rules 21 to 29 hold, as a list, exactly where the plan keeps them as crate schedule, Keeps, writes them out.
 pub plain-keeps : (m : Model) (p : Plan) → AllHold (plainRules m p) ↔ KeepsPlain m p
 unfolding plainRules rule21 rule22 rule23 rule24 rule25 rule26 rule27 rule28 rule29 deadlineRule
 plain-keeps m p = (
@@ -156,7 +156,7 @@ plain-keeps m p = (
       & tt,
 )
 
--- Rules 21 to 31 hold, as a list, exactly where the plan keeps them as specs/Keeps writes them out.
+-- Rules 21 to 31 hold, as a list, exactly where the plan keeps them as crate schedule, Keeps, writes them out.
 pub strict-keeps : (m : Model) (p : Plan) → AllHold (strictRules m p) ↔ KeepsStrict m p
 unfolding strictRules rule30 rule31
 strict-keeps m p = (

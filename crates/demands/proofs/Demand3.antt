@@ -51,7 +51,7 @@ use Rattle.laws.proofs.Sums.{figures-ext}
 use Rattle.laws.proofs.Unique.{Beside, same-word, same-start, same-end, nothing-owed}
 use Rattle.laws.proofs.Exists.{Made, counted, keeps}
 use Rattle.demands.specs.Strict.{PassesWith, Passes, Succeeds, planWritten, SingleStrictPlan}
-use Rattle.demands.proofs.Forms.{Formed, model-says, Chosen, choice-says}
+use Rattle.laws.proofs.Formed.{Formed, model-says, Chosen, choice-says}
 use Rattle.demands.proofs.Demand2.{
   strict-accepted,
   strict-passes,

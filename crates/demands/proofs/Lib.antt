@@ -1,4 +1,3 @@
 pub mod Demand2
-pub mod Forms
 pub mod Demand3
 pub mod AtS

@@ -3,11 +3,11 @@
 use Prim.Native.Nat.{ℕ, zero, suc, _+_, _≤_, _<_}
 use native.Mathlib.Decide.{decLt}
 use native.Mathlib.Omega.{arith}
-use mathlib.Core.Bool.{Bool, true, false, not, cond}
+use mathlib.Core.Bool.{Bool, true, false, _&&_, cond}
 use mathlib.Core.Logic.{_⊎_, inl, inr, ⊎-elim}
-use mathlib.Core.Path.{_≡_, refl, sym, subst, ap}
+use mathlib.Core.Path.{_≡_, refl, sym, subst, ap, ap₂}
 use lib.Dec.{T}
-use Rattle.schedule.specs.Bounded.{count}
+use Rattle.schedule.specs.Bounded.{all, count}
 use Rattle.laws.proofs.Tests.{below-suc}
 
 -- a test passes or it does not
@@ -71,6 +71,11 @@ count-ext (suc n) p q h =
       count-ext n p q (λ i l. h i (omega arith)),
       ap weight (h n (omega arith)),
     )
+
+pub all-ext : (n : ℕ) (p q : ℕ → Bool) → ((i : ℕ) → i < n → p i ≡ q i) → all n p ≡ all n q
+unfolding all
+all-ext zero p q h = refl
+all-ext (suc n) p q h = ap₂ _&&_ (all-ext n p q (λ i l. h i (omega arith))) (h n (omega arith))
 
 pub count-mono : (n : ℕ) (p q : ℕ → Bool) → ((i : ℕ) → i < n → T (p i) → T (q i)) → count n p ≤ count n q
 count-mono zero p q h = omega (arith, count-zero p, count-zero q)

@@ -255,9 +255,10 @@ found (r ∷ rs) x s e = ⊎-elim here (there (found rs x (s .1))) (orElse-some 
           broken = later .broken;
         }
 
-head-some : (r : Rule) (rs : List Rule) (x : Refusal) → break r ≡ some x → firstBreak (r ∷ rs) ≡ some x
+-- where the first rule of a list is broken, that is the answer
+pub rule-stops : (r : Rule) (rs : List Rule) (x : Refusal) → break r ≡ some x → firstBreak (r ∷ rs) ≡ some x
 unfolding firstBreak
-head-some r rs x e = orElse-some (break r) (firstBreak rs) x .1 (inl e)
+rule-stops r rs x e = orElse-some (break r) (firstBreak rs) x .1 (inl e)
 
 -- a refusal is the first break that the tests find exactly where it is the first break of the rules
 pub some-iff : (rules : List Rule) (x : Refusal) → AllSound rules → (firstBreak rules ≡ some x) ↔ FirstBroken rules x
@@ -268,7 +269,7 @@ some-iff rules x s = (found rules x s, back)
         let sounds = sound-append (h .before) (h .rule ∷ h .after) .0 (subst AllSound (h .splits) s) in
         ap firstBreak (h .splits)
         ∙ append-none (h .before) (h .rule ∷ h .after) (none-iff (h .before) (sounds .0) .1 (h .earlier-rules))
-        ∙ head-some (h .rule) (h .after) x (break-some (h .rule) x (sounds .1 .0) .1 (h .broken))
+        ∙ rule-stops (h .rule) (h .after) x (break-some (h .rule) x (sounds .1 .0) .1 (h .broken))
 
 -- either every rule holds, or there is a first break
 pub hold-or-broken : (rules : List Rule) → AllSound rules → AllHold rules ⊎ ((x : Refusal) × FirstBroken rules x)
@@ -277,3 +278,8 @@ hold-or-broken rules s = which (firstBreak rules) refl
     which : (o : Option Refusal) → firstBreak rules ≡ o → AllHold rules ⊎ ((x : Refusal) × FirstBroken rules x)
     which none e = inl (none-iff rules s .0 e)
     which (some x) e = inr (x, some-iff rules x s .0 e)
+
+-- where the first rule of a list holds, it leaves the answer to the others
+pub rule-goes-on : (r : Rule) (rs : List Rule) → break r ≡ none → firstBreak (r ∷ rs) ≡ firstBreak rs
+unfolding firstBreak
+rule-goes-on r rs e = ap (λ o. orElse o (firstBreak rs)) e

@@ -19,3 +19,4 @@ pub mod Exists
 pub mod NumbersLaws
 pub mod LinesLaws
 pub mod RowLaws
+pub mod Formed

@@ -1,4 +1,4 @@
--- Equal numbers and values mean equal answers: each map of specs/Numbers.antt is undone by a map back.
+-- Equal numbers and values mean equal answers: each map of crate schedule's Numbers is undone by a map back.
 -- Assumes nothing.
 use Prim.Native.Nat.{ℕ, _-_}
 use mathlib.Core.Bool.{cond}

@@ -1,5 +1,5 @@
 -- "Where an answer is an enum, a definition sets out this paper's number and values for each of its cases": what each
--- declared answer says, in the paper's numbers. proofs/NumbersLaws.antt shows that no two answers say the same.
+-- declared answer says, in the paper's numbers. crate laws, NumbersLaws, shows that no two answers say the same.
 -- Assumes nothing.
 use Prim.Native.Nat.{ℕ}
 use Rattle.schedule.specs.declared.Place.{Place}

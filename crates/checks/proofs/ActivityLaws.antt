@@ -1,0 +1,121 @@
+-- What the code of rules 21 to 27 answers at an activity is the mask of the rule's broken places there.
+-- Assumes nothing.
+use Prim.Native.Nat.{ℕ, _+_, _≤_, _<_}
+use native.Mathlib.Nat.{add-zero}
+use native.Mathlib.Omega.{arith}
+use mathlib.Core.Bool.{Bool, true, false, not, cond}
+use mathlib.Core.List.{List}
+use mathlib.Core.Path.{_≡_, refl, sym, ap, ap₂, _∙_}
+use lib.Dec.{T, leb}
+use Rattle.schedule.specs.Bounded.{bit, wordOf, _⇒_}
+use Rattle.schedule.specs.Fields.{Bytes}
+use Rattle.schedule.specs.Rule.{Rule}
+use Rattle.schedule.specs.Model.{Model, within}
+use Rattle.schedule.specs.Plan.{Plan, plan}
+use Rattle.schedule.specs.Numbers.{ruleNumber}
+use Rattle.schedule.specs.Checks.{countOf, efe, deadlineRule, rule21, rule22, rule23, rule24, rule25, rule26, rule27}
+use Rattle.laws.proofs.Tests.{T-leb}
+use Rattle.laws.proofs.Counting.{T-ext}
+use Rattle.laws.proofs.FieldLaws.{field-lt}
+use Rattle.laws.proofs.Words.{wordOf-ext}
+use Rattle.laws.proofs.RowLaws.{brokenMask}
+use Rattle.checks.specs.declared.activity.ActivityRule.{ActivityRule}
+use Rattle.checks.specs.Tables.{finishOf}
+use Rattle.checks.proofs.MaskRow.{one-column}
+use Rattle.checks.specs.Rules.{activityRule, activityName, precedes, delayIf}
+
+-- the predecessor mask that is read has the predecessors' bits
+pub precedes-bit : (m : Model) (temporal : Bool) (b a : ℕ)
+    → bit (cond temporal (m .temporal-mask a) (m .data-mask a)) b ≡ precedes m temporal b a
+precedes-bit m true b a = refl
+precedes-bit m false b a = refl
+
+-- one bit more of the mask of predecessors that a starts too early after
+pub early-next : (m : Model) (p : Plan) (temporal : Bool) (a b : ℕ) (yes? has? : Bool) (start end delay preceding : ℕ)
+    → yes? ≡ not (has? ⇒ leb (end + delay) start) → has? ≡ bit preceding b
+    → preceding ≡ cond temporal (m .temporal-mask a) (m .data-mask a) → start ≡ p .start a → end ≡ p .end b
+    → delay ≡ delayIf m temporal b
+    → yes? ≡ not (precedes m temporal b a ⇒ leb (p .end b + delayIf m temporal b) (p .start a))
+early-next m p temporal a b yes? has? start end delay preceding e h k s n d =
+    e
+    ∙ ap (λ (t : Bool). not (t ⇒ leb (end + delay) start))
+    (h ∙ ap (λ (w : ℕ). bit w b) k ∙ precedes-bit m temporal b a)
+    ∙ ap₂ (λ (x y : ℕ). not (precedes m temporal b a ⇒ leb x y)) (ap₂ _+_ n d) s
+
+-- 25 and 26: the predecessors at which they are broken
+pub temporal-mask : (m : Model) (p : Plan) (a : ℕ)
+    → wordOf (m .activities) (λ b. not (precedes m true b a ⇒ leb (p .end b + delayIf m true b) (p .start a)))
+    ≡ brokenMask (rule25 m p) a
+unfolding brokenMask rule25
+temporal-mask m p a = refl
+
+pub data-mask : (m : Model) (p : Plan) (a : ℕ)
+    → wordOf (m .activities) (λ b. not (precedes m false b a ⇒ leb (p .end b + delayIf m false b) (p .start a)))
+    ≡ brokenMask (rule26 m p) a
+unfolding brokenMask rule26
+data-mask m p a = wordOf-ext (m .activities) _ _ (λ b _.
+    ap (λ (x : ℕ). not (precedes m false b a ⇒ leb x (p .start a))) (add-zero (p .end b)))
+
+-- 27 by the sum of efe and count
+pub eligible-sum : (e k s : ℕ) → leb (e + k) (s + k) ≡ leb e s
+eligible-sum e k s = T-ext _ _ (λ t. T-leb e s .1 (omega (arith, T-leb (e + k) (s + k) .0 t)))
+    (λ t. T-leb (e + k) (s + k) .1 (omega (arith, T-leb e s .0 t)))
+
+-- a rule of activities is tried at m activities and at no more than 32 columns
+pub activity-rows : (rule : ActivityRule) (m : Model) (p : Plan) → activityRule rule m p .rows ≡ m .activities
+unfolding rule21 rule22 rule23 rule24 rule25 rule26 rule27 deadlineRule
+activity-rows ActivityRule.Window m p = refl
+activity-rows ActivityRule.Count m p = refl
+activity-rows ActivityRule.Deadline m p = refl
+activity-rows ActivityRule.Span m p = refl
+activity-rows ActivityRule.Temporal m p = refl
+activity-rows ActivityRule.Data m p = refl
+activity-rows ActivityRule.Eligible m p = refl
+
+pub activity-columns : (rule : ActivityRule) (m : Model) (p : Plan) → m .activities ≤ 32
+    → activityRule rule m p .columns ≤ 32
+unfolding rule21 rule22 rule23 rule24 rule25 rule26 rule27 deadlineRule
+activity-columns ActivityRule.Window m p h = omega arith
+activity-columns ActivityRule.Count m p h = omega arith
+activity-columns ActivityRule.Deadline m p h = omega arith
+activity-columns ActivityRule.Span m p h = omega arith
+activity-columns ActivityRule.Temporal m p h = h
+activity-columns ActivityRule.Data m p h = h
+activity-columns ActivityRule.Eligible m p h = omega arith
+
+pub activity-number : (rule : ActivityRule) (m : Model) (p : Plan) → ruleNumber (activityName rule) ≡ activityRule rule m p .number
+unfolding rule21 rule22 rule23 rule24 rule25 rule26 rule27 deadlineRule
+activity-number ActivityRule.Window m p = refl
+activity-number ActivityRule.Count m p = refl
+activity-number ActivityRule.Deadline m p = refl
+activity-number ActivityRule.Span m p = refl
+activity-number ActivityRule.Temporal m p = refl
+activity-number ActivityRule.Data m p = refl
+activity-number ActivityRule.Eligible m p = refl
+
+-- a rule that names no B: the flag is its mask
+pub flagged : (r : Rule) (a mask : ℕ) (holds : Bool) → r .columns ≡ 1 → mask ≡ cond holds 0 1 → holds ≡ r .test a 0
+    → mask ≡ brokenMask r a
+flagged r a mask holds one e h = e ∙ ap (λ (t : Bool). cond t 0 1) h ∙ sym (one-column r a one)
+
+-- 22, 24 and 27 from the tables
+pub count-test : (m : Model) (p : Plan) (a count : ℕ) (t : Bool)
+    → t ≡ within (m .least-duration a) (m .most-duration a) count → count ≡ countOf m p a → t ≡ rule22 m p .test a 0
+unfolding rule22
+count-test m p a count t e k = e ∙ ap (within (m .least-duration a) (m .most-duration a)) k
+
+pub span-test : (m : Model) (p : Plan) (a start count end : ℕ) (t : Bool)
+    → t ≡ leb (start + count) end → start ≡ p .start a → count ≡ countOf m p a → end ≡ p .end a → t ≡ rule24 m p .test a 0
+unfolding rule24
+span-test m p a start count end t e s k n = e ∙ ap₂ leb (ap₂ _+_ s k) n
+
+pub eligible-test : (m : Model) (p : Plan) (a start count finish : ℕ) (t : Bool)
+    → t ≡ leb finish (start + count) → start ≡ p .start a → count ≡ countOf m p a → finish ≡ finishOf m p a
+    → t ≡ rule27 m p .test a 0
+unfolding rule27
+eligible-test m p a start count finish t e s k f =
+    e ∙ ap₂ leb f (ap₂ _+_ s k) ∙ eligible-sum (efe m p a) (countOf m p a) (p .start a)
+
+pub start-lt : (r : List ℕ) → Bytes r → (a : ℕ) → plan r .start a < 65536
+unfolding plan
+start-lt r h a = field-lt r h _ 2

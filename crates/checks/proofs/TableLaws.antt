@@ -1,0 +1,57 @@
+-- Laws for the loops that make tables: one step of a count, of a largest number, of a table.
+-- Assumes nothing.
+use Prim.Native.Nat.{ℕ, zero, suc, _+_, _≤_, _<_, max}
+use native.Mathlib.Numerals.{add-one}
+use native.Mathlib.Omega.{arith}
+use mathlib.Core.Bool.{Bool, true, false, _&&_, cond}
+use mathlib.Core.List.{List}
+use mathlib.Core.Logic.{⊎-elim}
+use mathlib.Core.Path.{_≡_, refl, sym, subst, ap, ap₂, _∙_}
+use lib.Dec.{T}
+use lib.ListN.{length, getD, set, replicate}
+use lib.Seq.{getD-set-same, getD-set-other}
+use Rattle.schedule.specs.Bounded.{all, count, greatest}
+use Rattle.laws.proofs.Tests.{below-suc, T-all}
+use Rattle.laws.proofs.Counting.{T-false, count-suc}
+
+pub count-next : (n : ℕ) (p : ℕ → Bool) → count (n + 1) p ≡ count n p + cond (p n) 1 0
+count-next n p = rw (add-one n) (count-suc n p)
+
+pub count-start : (p : ℕ → Bool) → count 0 p ≡ 0
+unfolding count
+count-start p = refl
+
+pub greatest-next : (n : ℕ) (f : ℕ → ℕ) → greatest (n + 1) f ≡ max (greatest n f) (f n)
+unfolding greatest
+greatest-next n f = rw (add-one n)
+
+pub greatest-start : (f : ℕ → ℕ) → greatest 0 f ≡ 0
+unfolding greatest
+greatest-start f = refl
+
+-- one entry more of a table
+pub table-next : (l : List ℕ) (n v : ℕ) (f : ℕ → ℕ) → n < length l → v ≡ f n
+    → ((i : ℕ) → i < n → getD l i 0 ≡ f i) → (i : ℕ) → i < n + 1 → getD (set l n v) i 0 ≡ f i
+table-next l n v f room e h i less =
+    ⊎-elim
+    (λ (b : i < n). getD-set-other l n i v 0 (omega arith) ∙ h i b)
+    (λ (k : i ≡ n). subst (λ (j : ℕ). getD (set l n v) j 0 ≡ f j) (sym k) (getD-set-same l n v 0 room ∙ e))
+    (below-suc i n (omega arith))
+
+-- a table of zeros
+pub zeros-at : (n i : ℕ) → _≡_ {A = ℕ} (getD (replicate n 0) i 0) 0
+zeros-at zero i = refl
+zeros-at (suc n) zero = refl
+zeros-at (suc n) (suc i) = zeros-at n i
+
+-- one step of a test over all numbers below a bound
+pub all-start : (p : ℕ → Bool) → all 0 p ≡ true
+unfolding all
+all-start p = refl
+
+pub all-next : (n : ℕ) (p : ℕ → Bool) → all n p ≡ true → p n ≡ true → all (n + 1) p ≡ true
+unfolding all
+all-next n p h e = rw (add-one n) (ap₂ _&&_ h e)
+
+pub all-fails : (n k : ℕ) (p : ℕ → Bool) → k < n → p k ≡ false → all n p ≡ false
+all-fails n k p l e = T-false (all n p) (λ t. subst T e (T-all n p .0 t k l))

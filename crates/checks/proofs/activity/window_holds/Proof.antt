@@ -1,0 +1,128 @@
+-- `checks::activity::window_holds` meets its contract, by the tests in turn. Assumes nothing.
+use mathlib.Core.Path.{_≡_, sym, ap, _∙_}
+use borrow.Author.Tests.{lt-ltb, le-ltb, le-leb, lt-leb, not-true, not-false}
+use Rattle.schedule.specs.Model.{model}
+use Rattle.schedule.specs.Plan.{plan}
+use Rattle.schedule.specs.Checks.{window}
+use Rattle.records.specs.declared.plan.Span.{Span}
+use Rattle.records.specs.declared.model.Sizes.{Sizes}
+use Rattle.records.specs.Rows.{spanOf, sizesOf}
+use borrow.Author.Needs.{needs}
+use Rattle.checks.proofs.activity.window_holds.Statement.{statement}
+use Rattle.checks.proofs.activity.window_holds.Tie as tie
+
+activity-row-requires : tie.Need-activity-row-requires
+activity-row-requires c κs = search needs
+
+counts-requires : tie.Need-counts-requires
+counts-requires c κs = search needs
+
+returns : tie.Need-returns
+unfolding window spanOf sizesOf
+returns c =
+    let x = c .before .before .before .before .before .args in
+    let start : c .before .before .activity-row .result .start ≡ plan (x .r .now) .start (x .a) = ap (λ (y : Span). y .start) (c .before .before .activity-row .ensures) in
+    let end : c .before .before .activity-row .result .end ≡ plan (x .r .now) .end (x .a) = ap (λ (y : Span). y .end) (c .before .before .activity-row .ensures) in
+    let horizon : c .before .counts .result .horizon ≡ model (x .s .now) .horizon = ap (λ (y : Sizes). y .horizon) (c .before .counts .ensures) in
+    simp (← start, ← end, le-ltb _ _ (c .if1 .taken))
+
+returns-2 : tie.Need-returns-2
+unfolding window spanOf sizesOf
+returns-2 c =
+    let x = c .before .before .before .before .before .before .args in
+    let start : c .before .before .before .activity-row .result .start ≡ plan (x .r .now) .start (x .a) = ap (λ (y : Span). y .start) (c .before .before .before .activity-row .ensures) in
+    let end : c .before .before .before .activity-row .result .end ≡ plan (x .r .now) .end (x .a) = ap (λ (y : Span). y .end) (c .before .before .before .activity-row .ensures) in
+    let horizon : c .before .before .counts .result .horizon ≡ model (x .s .now) .horizon = ap (λ (y : Sizes). y .horizon) (c .before .before .counts .ensures) in
+    simp (← start, ← end, ← horizon, lt-ltb _ _ (c .before .if1 .left), lt-leb _ _ (c .if2 .taken))
+
+word-requires : tie.Need-word-requires
+word-requires c κs = search needs
+
+has-requires : tie.Need-has-requires
+has-requires c κs = search needs
+
+returns-3 : tie.Need-returns-3
+unfolding window spanOf sizesOf
+returns-3 c =
+    let x = c .before .before .before .before .before .before .before .before .before .args in
+    let start : c .before .before .before .before .before .before .activity-row .result .start ≡ plan (x .r .now) .start (x .a) = ap (λ (y : Span). y .start) (c .before .before .before .before .before .before .activity-row .ensures) in
+    let end : c .before .before .before .before .before .before .activity-row .result .end ≡ plan (x .r .now) .end (x .a) = ap (λ (y : Span). y .end) (c .before .before .before .before .before .before .activity-row .ensures) in
+    let horizon : c .before .before .before .before .before .counts .result .horizon ≡ model (x .s .now) .horizon = ap (λ (y : Sizes). y .horizon) (c .before .before .before .before .before .counts .ensures) in
+    simp (
+      ← start,
+      ← end,
+      ← horizon,
+      lt-ltb _ _ (c .before .before .before .before .if1 .left),
+      le-leb _ _ (c .before .before .before .if2 .left),
+      ← c .before .before .word .ensures,
+      sym (c .before .has .ensures) ∙ not-true _ (c .if3 .taken),
+    )
+
+sub-word : tie.Need-sub-word
+sub-word c = search needs
+
+word-requires-2 : tie.Need-word-requires-2
+word-requires-2 c κs = search needs
+
+has-requires-2 : tie.Need-has-requires-2
+has-requires-2 c κs = search needs
+
+returns-4 : tie.Need-returns-4
+unfolding window spanOf sizesOf
+returns-4 c =
+    let x = c .before .before .before .before .before .before .before .before .before .before .before .before .args in
+    let start : c .before .before .before .before .before .before .before .before .before .activity-row .result .start ≡ plan (x .r .now) .start (x .a) = ap (λ (y : Span). y .start) (c .before .before .before .before .before .before .before .before .before .activity-row .ensures) in
+    let end : c .before .before .before .before .before .before .before .before .before .activity-row .result .end ≡ plan (x .r .now) .end (x .a) = ap (λ (y : Span). y .end) (c .before .before .before .before .before .before .before .before .before .activity-row .ensures) in
+    let horizon : c .before .before .before .before .before .before .before .before .counts .result .horizon ≡ model (x .s .now) .horizon = ap (λ (y : Sizes). y .horizon) (c .before .before .before .before .before .before .before .before .counts .ensures) in
+    simp (
+      ← start,
+      ← end,
+      ← horizon,
+      lt-ltb _ _ (c .before .before .before .before .before .before .before .if1 .left),
+      le-leb _ _ (c .before .before .before .before .before .before .if2 .left),
+      ← c .before .before .before .before .before .word .ensures,
+      sym (c .before .before .before .before .has .ensures) ∙ not-false _ (c .before .before .before .if3 .left),
+      ← c .before .before .word2 .ensures,
+      sym (c .before .has2 .ensures) ∙ not-true _ (c .if4 .taken),
+    )
+
+none-outside-requires : tie.Need-none-outside-requires
+none-outside-requires c κs = search needs
+
+returns-5 : tie.Need-returns-5
+unfolding window spanOf sizesOf
+returns-5 c =
+    let x = c .before .before .before .before .before .before .before .before .before .before .before .before .before .args in
+    let start : c .before .before .before .before .before .before .before .before .before .before .activity-row .result .start ≡ plan (x .r .now) .start (x .a) = ap (λ (y : Span). y .start) (c .before .before .before .before .before .before .before .before .before .before .activity-row .ensures) in
+    let end : c .before .before .before .before .before .before .before .before .before .before .activity-row .result .end ≡ plan (x .r .now) .end (x .a) = ap (λ (y : Span). y .end) (c .before .before .before .before .before .before .before .before .before .before .activity-row .ensures) in
+    let horizon : c .before .before .before .before .before .before .before .before .before .counts .result .horizon ≡ model (x .s .now) .horizon = ap (λ (y : Sizes). y .horizon) (c .before .before .before .before .before .before .before .before .before .counts .ensures) in
+    simp (
+      ← start,
+      ← end,
+      ← horizon,
+      lt-ltb _ _ (c .before .before .before .before .before .before .before .before .if1 .left),
+      le-leb _ _ (c .before .before .before .before .before .before .before .if2 .left),
+      ← c .before .before .before .before .before .before .word .ensures,
+      sym (c .before .before .before .before .before .has .ensures) ∙ not-false _ (c .before .before .before .before .if3 .left),
+      ← c .before .before .before .word2 .ensures,
+      sym (c .before .before .has2 .ensures) ∙ not-false _ (c .before .if4 .left),
+    )
+    (c .none-outside .ensures)
+
+pub window-holds-spec : {M : Type 1} → statement M
+window-holds-spec =
+    tie.close
+    (tie.spec
+    activity-row-requires
+    counts-requires
+    returns
+    returns-2
+    word-requires
+    has-requires
+    returns-3
+    sub-word
+    word-requires-2
+    has-requires-2
+    returns-4
+    none-outside-requires
+    returns-5)

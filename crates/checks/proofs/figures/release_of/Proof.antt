@@ -1,0 +1,20 @@
+-- `checks::figures::release_of` meets its contract: the row is that of the definition. Assumes nothing.
+use mathlib.Core.Path.{ap}
+use Rattle.records.specs.declared.plan.Timing.{Timing}
+use Rattle.records.specs.Rows.{timing}
+use borrow.Author.Needs.{needs}
+use Rattle.checks.proofs.figures.release_of.Statement.{statement}
+use Rattle.checks.proofs.figures.release_of.Tie as tie
+
+thread-row-requires : tie.Need-thread-row-requires
+thread-row-requires c κs = search needs
+
+cast-result : tie.Need-cast-result
+cast-result c = search needs
+
+returns : tie.Need-returns
+unfolding timing
+returns c = ap (λ (y : Timing). y .release) (c .before .thread-row .ensures)
+
+pub release-of-spec : {M : Type 1} → statement M
+release-of-spec = tie.close (tie.spec thread-row-requires cast-result returns)

@@ -1,0 +1,111 @@
+-- `checks::tables::after` meets its contract: `latest` is the latest over the predecessors passed. Assumes nothing.
+use Prim.Native.Nat.{ℕ, _+_, _≤_, _-_, max}
+use native.Mathlib.Omega.{arith}
+use mathlib.Core.Bool.{cond}
+use mathlib.Core.Path.{_≡_, sym, ap, ap₂, _∙_}
+use lib.ListN.{getD}
+use Rattle.schedule.specs.Bounded.{bit, greatest}
+use Rattle.schedule.specs.Model.{model}
+use Rattle.records.specs.declared.model.ActivityRow.{ActivityRow}
+use Rattle.records.specs.Rows.{activityRowOf}
+use Rattle.checks.specs.Tables as tables
+use Rattle.checks.proofs.TableLaws.{greatest-next, greatest-start}
+use borrow.Author.Needs.{needs}
+use Rattle.checks.proofs.tables.after.Statement.{statement}
+use Rattle.checks.proofs.tables.after.Tie as tie
+
+abbrev Inv-loop : tie.InvT-loop
+Inv-loop s n done temporal by-data latest₀ b₀ latest b =
+    (b ≤ n)
+    × (latest ≡ greatest b (λ i. cond (bit temporal i) (getD done i 0 + model s .delay i) (cond (bit by-data i) (getD done i 0) 0)))
+
+abbrev μ-loop : tie.MeasureT-loop
+μ-loop s n done temporal by-data latest₀ b₀ latest b = n - b
+
+activity-row-requires : tie.Need-activity-row-requires Inv-loop μ-loop
+activity-row-requires c κs = search needs
+
+loop-holds : tie.Need-loop-holds Inv-loop μ-loop
+loop-holds c = (omega arith, sym (greatest-start _))
+
+activity-row-requires-2 : tie.Need-activity-row-requires-2 Inv-loop μ-loop
+activity-row-requires-2 c κs = search needs
+
+cast-at : tie.Need-cast-at Inv-loop μ-loop
+cast-at c = omega arith
+
+cast-has : tie.Need-cast-has Inv-loop μ-loop
+cast-has c = omega arith
+
+has-requires : tie.Need-has-requires Inv-loop μ-loop
+has-requires c κs = search needs
+
+cast-has-2 : tie.Need-cast-has-2 Inv-loop μ-loop
+cast-has-2 c = omega arith
+
+has-requires-2 : tie.Need-has-requires-2 Inv-loop μ-loop
+has-requires-2 c κs = search needs
+
+mul-let-go : tie.Need-mul-let-go Inv-loop μ-loop
+mul-let-go c = omega arith
+
+element-copy-out-let-go : tie.Need-element-copy-out-let-go Inv-loop μ-loop
+element-copy-out-let-go c = omega arith
+
+let-go-requires : tie.Need-let-go-requires Inv-loop μ-loop
+let-go-requires c κs = c .before .before .before .before .before .before .before .before .pre .1 (c .before .before .before .before .before .loop .b) (c .before .before .before .before .loop-test .taken)
+
+larger-requires : tie.Need-larger-requires Inv-loop μ-loop
+larger-requires c κs = search needs
+
+add-b : tie.Need-add-b Inv-loop μ-loop
+add-b c = omega arith
+
+loop-less : tie.Need-loop-less Inv-loop μ-loop
+loop-less c = omega arith
+
+loop-again : tie.Need-loop-again Inv-loop μ-loop
+unfolding activityRowOf
+loop-again c =
+    let l = c .before .before .before .before .before .before .before .loop in
+    let x = c .before .before .before .before .before .before .before .before .before .before .args in
+    let delay : c .before .before .before .before .before .activity-row2 .result .delay ≡ model (x .s .now) .delay (l .b) =
+    ap (λ row. row .delay) (c .before .before .before .before .before .activity-row2 .ensures) in
+    let free = c .before .let-go .ensures in
+    let test = c .before .before .before .before .has .ensures in
+    let test2 = c .before .before .before .has2 .ensures in
+    (omega arith, c .larger .ensures ∙ ap₂ max (l .inv .1) (cc) ∙ sym (greatest-next (l .b) _))
+
+returns : tie.Need-returns Inv-loop μ-loop
+unfolding activityRowOf tables.after
+returns c =
+    let x = c .before .before .before .before .args in
+    let row = c .before .before .activity-row .ensures in
+    let whole : c .before .loop .b ≡ x .n = omega arith in
+    c .before .loop .inv .1
+    ∙ ap₂ (λ (k : ℕ) (y : ActivityRow). greatest k (λ i. cond (bit (y .«temporal_mask») i)
+    (getD (x .done .now) i 0 + model (x .s .now) .delay i) (cond (bit (y .«data_mask») i) (getD (x .done .now) i 0) 0)))
+    whole row
+
+pub after-spec : {M : Type 1} → statement M
+after-spec =
+    tie.close
+    (tie.spec
+    Inv-loop
+    μ-loop
+    activity-row-requires
+    loop-holds
+    activity-row-requires-2
+    cast-at
+    cast-has
+    has-requires
+    cast-has-2
+    has-requires-2
+    mul-let-go
+    element-copy-out-let-go
+    let-go-requires
+    larger-requires
+    add-b
+    loop-less
+    loop-again
+    returns)

@@ -1,0 +1,45 @@
+-- `checks::tables::earliest` meets its contract: the larger of the release and what the predecessors let go. Assumes nothing.
+use Prim.Native.Nat.{max}
+use mathlib.Core.Path.{_≡_, ap, ap₂, _∙_}
+use Rattle.schedule.specs.Plan.{plan}
+use Rattle.records.specs.declared.plan.Timing.{Timing}
+use Rattle.records.specs.Rows.{timing}
+use borrow.Author.Needs.{needs}
+use Rattle.checks.proofs.tables.earliest.Statement.{statement}
+use Rattle.checks.proofs.tables.earliest.Tie as tie
+
+thread-of-requires : tie.Need-thread-of-requires
+thread-of-requires c κs = search needs
+
+thread-row-requires : tie.Need-thread-row-requires
+thread-row-requires c κs = search needs
+
+cast-release : tie.Need-cast-release
+cast-release c = search needs
+
+after-requires : tie.Need-after-requires
+after-requires c κs = search needs
+
+larger-requires : tie.Need-larger-requires
+larger-requires c κs = search needs
+
+returns : tie.Need-returns
+unfolding timing
+returns c =
+    let x = c .before .before .before .before .before .before .before .args in
+    c .larger .ensures
+    ∙ ap₂ max
+    (ap (λ (y : Timing). y .release) (c .before .before .before .thread-row .ensures)
+    ∙ ap (λ j. plan (x .r .now) .release (j .0)) (c .before .before .before .before .thread-of .ensures))
+    (c .before .after .ensures)
+
+pub earliest-spec : {M : Type 1} → statement M
+earliest-spec =
+    tie.close
+    (tie.spec
+    thread-of-requires
+    thread-row-requires
+    cast-release
+    after-requires
+    larger-requires
+    returns)

@@ -1,0 +1,67 @@
+-- Rules 21 to 27 by name, and what their code answers at an activity.
+-- Assumes nothing.
+use Prim.Native.Nat.{ℕ, _+_, _≤_, _<_}
+use mathlib.Core.Bool.{Bool, true, false, not, cond}
+use mathlib.Core.List.{List, [], _∷_}
+use mathlib.Core.Path.{_≡_}
+use Rattle.schedule.specs.Rule.{Rule}
+use Rattle.schedule.specs.Model.{Model, temporally, byData}
+use Rattle.schedule.specs.Plan.{Plan}
+use Rattle.schedule.specs.Checks.{countOf, rule21, rule22, rule23, rule24, rule25, rule26, rule27, rule28, rule29, rule30, rule31, plainRules, strictRules}
+use Rattle.schedule.specs.Answers.{plainChecks, strictChecks}
+use Rattle.schedule.specs.declared.RuleRefusal.{RuleRefusal}
+use Rattle.checks.specs.declared.activity.ActivityRule.{ActivityRule}
+use Rattle.checks.specs.Tables.{Holds, finishOf}
+
+abbrev pub activityRule : ActivityRule → Model → Plan → Rule
+activityRule ActivityRule.Window = rule21
+activityRule ActivityRule.Count = rule22
+activityRule ActivityRule.Deadline = rule23
+activityRule ActivityRule.Span = rule24
+activityRule ActivityRule.Temporal = rule25
+activityRule ActivityRule.Data = rule26
+activityRule ActivityRule.Eligible = rule27
+
+abbrev pub activityName : ActivityRule → RuleRefusal
+activityName ActivityRule.Window = RuleRefusal.Window
+activityName ActivityRule.Count = RuleRefusal.Count
+activityName ActivityRule.Deadline = RuleRefusal.Deadline
+activityName ActivityRule.Span = RuleRefusal.Span
+activityName ActivityRule.Temporal = RuleRefusal.Temporal
+activityName ActivityRule.Data = RuleRefusal.Data
+activityName ActivityRule.Eligible = RuleRefusal.Eligible
+
+-- b precedes a, temporally or by data
+abbrev pub precedes : Model → Bool → ℕ → ℕ → Bool
+precedes m true b a = temporally m b a
+precedes m false b a = byData m b a
+
+-- the delay after b, which counts for a temporal predecessor only
+abbrev pub delayIf : Model → Bool → ℕ → ℕ
+delayIf m temporal b = cond temporal (m .delay b) 0
+
+-- the tables that rules 22, 24 and 27 need
+pub record Counted (m : Model) (p : Plan) (counts finishes : List ℕ) : Type 0 where
+  pub few : m .activities ≤ 32
+  pub count-ticks : Holds m counts (countOf m p)
+  pub finish-ticks : Holds m finishes (finishOf m p)
+
+-- the rules in the order in which the code tries them
+unfoldable pub activityRules : Model → Plan → List Rule
+activityRules m p =
+    rule21 m p ∷ rule22 m p ∷ rule23 m p ∷ rule24 m p ∷ rule25 m p ∷ rule26 m p ∷ rule27 m p ∷ []
+
+unfoldable pub plainTicks : Model → Plan → List Rule
+plainTicks m p = rule28 m p ∷ rule29 m p ∷ []
+
+unfoldable pub strictTicks : Model → Plan → List Rule
+strictTicks m p = rule30 m p ∷ rule31 m p ∷ []
+
+-- the rules of the plain or the strict check on a plan, and on two byte strings
+abbrev pub gridRules : Bool → Model → Plan → List Rule
+gridRules true m p = strictRules m p
+gridRules false m p = plainRules m p
+
+abbrev pub checksOf : Bool → List ℕ → List ℕ → List Rule
+checksOf true s r = strictChecks s r
+checksOf false s r = plainChecks s r

@@ -1,0 +1,92 @@
+// "A pass answers usage (all ones), c times H, makespan".
+use crate::tables::end_of;
+use crate::tables::larger;
+use schedule::Activity;
+use schedule::Figures;
+use schedule::Thread;
+ghost use mathlib.Core.Path.{_≡_};
+ghost use Prim.Native.Nat.{_≤_, _<_, _-_, min};
+ghost use Rattle.schedule.specs.Bounded.{ones, total, greatest, least};
+ghost use Rattle.schedule.specs.Model.{model};
+ghost use Rattle.schedule.specs.Plan.{plan};
+ghost use Rattle.schedule.specs.Answers.{figures};
+ghost use Rattle.schedule.specs.Numbers.{figureNumbers};
+
+// All ones, counted from the words.
+fn usage(r: &[u8], horizon: u16) -> u32
+    ensures { λ x. ⌜ x ≡ total horizon (λ t. ones (plan (now (r .entry)) .word t)) ⌝ }
+{
+    let mut sum: u32 = 0;
+    let mut t: u16 = 0;
+    while t < horizon {
+        sum += bits::ones(records::plan::word(r, t));
+        t += 1;
+    }
+    sum
+}
+
+// The greatest end.
+fn latest_end(r: &[u8], n: u8) -> u32
+    ensures { λ x. ⌜ x ≡ greatest n (plan (now (r .entry)) .end) ⌝ }
+{
+    let mut latest: u32 = 0;
+    let mut a: u8 = 0;
+    while a < n {
+        latest = larger(latest, end_of(r, Activity(a)));
+        a += 1;
+    }
+    latest
+}
+
+// The release of thread j.
+fn release_of(r: &[u8], j: Thread) -> u32
+    ensures { λ x. ⌜ x ≡ plan (now (r .entry)) .release (j .0) ⌝ }
+{
+    let row = records::plan::thread_row(r, j);
+    row.release as u32
+}
+
+// The smaller of two numbers.
+fn smaller(x: u32, y: u32) -> u32
+    ensures { λ r. ⌜ r ≡ min x y ⌝ }
+{
+    if x < y { x } else { y }
+}
+
+// The least release over all threads, those without activities too.
+fn least_release(r: &[u8], n: u8) -> u32
+    ensures { λ x. ⌜ x ≡ least n (plan (now (r .entry)) .release) ⌝ }
+{
+    if n == 0 {
+        return 0;
+    }
+    let mut first = release_of(r, Thread(0));
+    let mut j: u8 = 1;
+    while j < n {
+        first = smaller(first, release_of(r, Thread(j)));
+        j += 1;
+    }
+    first
+}
+
+// A difference that stops at 0.
+fn less(x: u32, y: u32) -> u32
+    ensures { λ r. ⌜ r ≡ x - y ⌝ }
+{
+    if x < y { 0 } else { x - y }
+}
+
+// The figures of a plan.
+pub(crate) fn figures_of(s: &[u8], r: &[u8]) -> Figures
+    ensures { λ x. ⌜ figureNumbers x ≡ figures (model (now (s .entry))) (plan (now (r .entry))) ⌝ }
+{
+    let sizes = records::model::counts(s);
+    Figures {
+        usage: usage(r, sizes.horizon),
+        capacity: (sizes.cores as u32) * (sizes.horizon as u32),
+        makespan: less(
+            latest_end(r, sizes.activities),
+            least_release(r, sizes.threads),
+        ),
+    }
+}

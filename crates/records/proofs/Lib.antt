@@ -1,0 +1,5 @@
+pub mod Masks
+pub mod Reading
+pub mod RowTests
+pub mod Forms
+pub mod Injective

@@ -1,0 +1,17 @@
+-- `choice::thread_row` meets its contract: its thread rows begin at 7.
+-- Assumes nothing.
+use Rattle.schedule.specs.Choice.{choice}
+use Rattle.records.specs.Rows.{timingAt}
+use borrow.Author.Needs.{needs}
+use Rattle.records.proofs.choice.thread_row.Statement.{statement}
+use Rattle.records.proofs.choice.thread_row.Tie as tie
+
+row-requires : tie.Need-row-requires
+row-requires c κs = search needs
+
+returns : tie.Need-returns
+unfolding choice timingAt
+returns c = c .row .ensures
+
+pub thread-row-spec : {M : Type 1} → statement M
+thread-row-spec = tie.close (tie.spec row-requires returns)

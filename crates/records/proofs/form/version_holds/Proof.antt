@@ -1,0 +1,14 @@
+-- `form::version_holds` meets its contract: the field read is that of the definition.
+-- Assumes nothing.
+use borrow.Author.Needs.{needs}
+use Rattle.records.proofs.form.version_holds.Statement.{statement}
+use Rattle.records.proofs.form.version_holds.Tie as tie
+
+byte-requires : tie.Need-byte-requires
+byte-requires c κs = search needs
+
+returns : tie.Need-returns
+returns c = cc
+
+pub version-holds-spec : {M : Type 1} → statement M
+version-holds-spec = tie.close (tie.spec byte-requires returns)

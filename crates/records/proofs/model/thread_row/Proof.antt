@@ -1,0 +1,65 @@
+-- `model::thread_row` meets its contract: the fields read are those of the definition.
+-- Assumes nothing.
+use borrow.Author.Needs.{needs}
+use Rattle.records.specs.Rows.{threadRowOf}
+use Rattle.schedule.specs.Model.{model}
+use Rattle.records.proofs.model.thread_row.Statement.{statement}
+use Rattle.records.proofs.model.thread_row.Tie as tie
+
+cast-at : tie.Need-cast-at
+cast-at c = search needs
+
+mul-at : tie.Need-mul-at
+mul-at c = search needs
+
+add-at : tie.Need-add-at
+add-at c = search needs
+
+be16-requires : tie.Need-be16-requires
+be16-requires c κs = search needs
+
+add-be16 : tie.Need-add-be16
+add-be16 c = search needs
+
+be16-requires-2 : tie.Need-be16-requires-2
+be16-requires-2 c κs = search needs
+
+add-be16-2 : tie.Need-add-be16-2
+add-be16-2 c = search needs
+
+be16-requires-3 : tie.Need-be16-requires-3
+be16-requires-3 c κs = search needs
+
+add-be16-3 : tie.Need-add-be16-3
+add-be16-3 c = search needs
+
+be16-requires-4 : tie.Need-be16-requires-4
+be16-requires-4 c κs = search needs
+
+add-be16-4 : tie.Need-add-be16-4
+add-be16-4 c = search needs
+
+be16-requires-5 : tie.Need-be16-requires-5
+be16-requires-5 c κs = search needs
+
+returns : tie.Need-returns
+unfolding threadRowOf model
+returns c = cc
+
+pub thread-row-spec : {M : Type 1} → statement M
+thread-row-spec =
+    tie.close
+    (tie.spec
+    cast-at
+    mul-at
+    add-at
+    be16-requires
+    add-be16
+    be16-requires-2
+    add-be16-2
+    be16-requires-3
+    add-be16-3
+    be16-requires-4
+    add-be16-4
+    be16-requires-5
+    returns)

@@ -1,0 +1,140 @@
+// The choice record: "n, m (1 byte each); n rows of release, period (2 each); m durations (2 each)".
+use crate::Pass;
+use crate::form;
+use crate::model;
+use crate::plan::Timing;
+use crate::timings;
+use schedule::Activity;
+use schedule::FormRefusal;
+use schedule::Refusal;
+use schedule::Thread;
+ghost use mathlib.Core.Path.{_≡_};
+ghost use Rattle.schedule.specs.Rule.{break, firstBreak};
+ghost use Rattle.schedule.specs.Model.{model};
+ghost use Rattle.schedule.specs.Choice.{choice, choiceForm, choiceLength, durationRule};
+ghost use Rattle.records.specs.Rows.{timing};
+ghost use Rattle.records.specs.Reads.{rowAnswer, refusalOf, passNumbers, choiceHead};
+ghost use Rattle.records.specs.Reads.{durationReadNumbers, choiceReadNumbers};
+
+// Thread row j of a choice, of any bytes.
+pub fn thread_row(q: &[u8], j: Thread) -> Timing
+    ensures { λ r. ⌜ r ≡ timing (choice (now (q .entry)) .release (j .0)) (choice (now (q .entry)) .period (j .0)) ⌝ }
+{
+    timings::row(q, 7, j)
+}
+
+// Activity a's duration, of any bytes.
+pub fn duration(q: &[u8], a: Activity) -> u16
+    ensures { λ r. ⌜ r ≡ choice (now (q .entry)) .duration (a .0) ⌝ }
+{
+    let number = a.0;
+    let threads = fields::byte(q, 5);
+    fields::be16(q, 7 + 4 * (threads as usize) + 2 * (number as usize))
+}
+
+// ---- rules 8 to 11
+
+// "Length 7 + 4n + 2m"
+fn formula(q: &[u8]) -> u32
+    ensures { λ r. ⌜ r ≡ choiceLength (choice (now (q .entry)) .threads) (choice (now (q .entry)) .activities) ⌝ }
+{
+    7 + 4 * (fields::byte(q, 5) as u32) + 2 * (fields::byte(q, 6) as u32)
+}
+
+// Rules 8 to 11, "in list order".
+fn head(s: &[u8], q: &[u8]) -> Pass
+    ensures { λ r. ⌜ passNumbers r ≡ firstBreak (choiceHead (model (now (s .entry))) (now (q .entry))) ⌝ }
+{
+    if !form::length_holds(q, 7) {
+        return Pass::Refused(form::refusal(FormRefusal::SecondSize, 0));
+    }
+    if !form::version_holds(q) {
+        return Pass::Refused(form::refusal(FormRefusal::SecondVersion, 0));
+    }
+    if !form::counts_hold(s, q) {
+        return Pass::Refused(form::refusal(FormRefusal::SecondCounts, 0));
+    }
+    if !form::formula_holds(q, formula(q)) {
+        return Pass::Refused(form::refusal(FormRefusal::SecondFormula, 0));
+    }
+    Pass::Holds
+}
+
+// ---- rule 13, over the durations
+
+// What reading an activity's duration answers.
+pub enum DurationRead {
+    Row(u16),
+    Refused(Refusal),
+}
+
+impl DurationRead {
+    // The refusal that it carries, if it does.
+    fn pass(self) -> Pass
+        ensures { λ r. ⌜ passNumbers r ≡ refusalOf (durationReadNumbers self) ⌝ }
+    {
+        match self {
+            DurationRead::Row(_) => Pass::Holds,
+            DurationRead::Refused(x) => Pass::Refused(x),
+        }
+    }
+}
+
+// Activity a's duration, or its refusal: "duration outside its range".
+fn read_duration(s: &[u8], q: &[u8], a: Activity) -> DurationRead
+    ensures { λ r. ⌜ durationReadNumbers r
+        ≡ rowAnswer (durationRule (model (now (s .entry))) (choice (now (q .entry)))) (a .0)
+        (choice (now (q .entry)) .duration (a .0)) ⌝ }
+{
+    let number = a.0;
+    let chosen = duration(q, a);
+    let range = model::activity_row(s, a);
+    if form::within(range.least_duration, range.most_duration, chosen) {
+        DurationRead::Row(chosen)
+    } else {
+        DurationRead::Refused(form::refusal(FormRefusal::DurationChoice, number as u32))
+    }
+}
+
+// Rule 13 over all activities of the model.
+fn read_durations(s: &[u8], q: &[u8]) -> Pass
+    ensures { λ r. ⌜ passNumbers r ≡ break (durationRule (model (now (s .entry))) (choice (now (q .entry)))) ⌝ }
+{
+    let activities = fields::byte(s, 7);
+    let mut a: u8 = 0;
+    while a < activities {
+        let read = read_duration(s, q, Activity(a));
+        let DurationRead::Row(_) = read else {
+            return read.pass();
+        };
+        a += 1;
+    }
+    Pass::Holds
+}
+
+// ---- the choice
+
+// What reading a choice beside a model answers.
+pub enum ChoiceRead {
+    Choice,
+    Refused(Refusal),
+}
+
+// Rules 8 to 13, beside the bytes of any model.
+pub fn read(s: &[u8], q: &[u8]) -> ChoiceRead
+    ensures { λ r. ⌜ choiceReadNumbers r ≡ firstBreak (choiceForm (model (now (s .entry))) (now (q .entry))) ⌝ }
+{
+    let first = head(s, q);
+    if let Pass::Refused(x) = first {
+        return ChoiceRead::Refused(x);
+    }
+    let timings = timings::read_timings(s, q, 7);
+    if let Pass::Refused(x) = timings {
+        return ChoiceRead::Refused(x);
+    }
+    let durations = read_durations(s, q);
+    if let Pass::Refused(x) = durations {
+        return ChoiceRead::Refused(x);
+    }
+    ChoiceRead::Choice
+}

@@ -1,0 +1,58 @@
+-- The machine's tick on whole words, from tables: what has ended, what is ready, what is selected.
+-- Assumes nothing.
+use Prim.Native.Nat.{ℕ, _+_, _-_, _^_, _≤_, _<_}
+use mathlib.Core.Bool.{Bool, _&&_}
+use mathlib.Core.List.{List}
+use mathlib.Core.Path.{_≡_}
+use lib.Bits.{bitAnd}
+use lib.Dec.{T, eqb, leb, ltb}
+use lib.ListN.{getD}
+use Rattle.schedule.specs.Bounded.{bit, wordOf, ones}
+use Rattle.schedule.specs.Model.{Model, temporally, byData}
+use Rattle.schedule.specs.Machine.{State, owes, endOf, before}
+
+-- a table of 32 numbers holds f at each activity of the model
+abbrev pub Holds : Model → List ℕ → (ℕ → ℕ) → Type 0
+Holds m table f = (a : ℕ) → a < m .activities → getD table a 0 ≡ f a
+
+-- every bit of x is a bit of y
+unfoldable pub covered : ℕ → ℕ → Bool
+covered x y = eqb (bitAnd x ((2 ^ 32 - 1) - y)) 0
+
+-- the activities that owe nothing and whose end and delay have passed by tick t
+unfoldable pub endedMask : ℕ → List ℕ → List ℕ → List ℕ → ℕ → ℕ
+endedMask n owed ends delays t = wordOf n (λ b. eqb (getD owed b 0) 0 && leb (getD ends b 0 + getD delays b 0) t)
+
+-- whether activity a is ready at tick t, where `past` and `over` hold the temporal and data predecessors that have ended
+unfoldable pub readyFrom : List ℕ → List ℕ → List ℕ → List ℕ → ℕ → ℕ → ℕ → ℕ → Bool
+readyFrom owed releases temporal by-data past over t a =
+    ltb 0 (getD owed a 0)
+    && (leb (getD releases a 0) t && (covered (getD temporal a 0) past && covered (getD by-data a 0) over))
+
+-- whether activity a is among the first c of the ready, where a table holds the activities that rank before each
+unfoldable pub selectedFrom : ℕ → ℕ → List ℕ → ℕ → Bool
+selectedFrom c ready-mask befores a = bit ready-mask a && ltb (ones (bitAnd ready-mask (getD befores a 0))) c
+
+-- the activities that rank before a
+unfoldable pub beforeMask : Model → ℕ → ℕ
+beforeMask m a = wordOf (m .activities) (λ b. before m b a)
+
+-- Tables of what the machine needs of a model and the chosen releases.
+pub record Tabled (m : Model) (release : ℕ → ℕ) (releases delays temporal by-data befores : List ℕ) : Type 0 where
+  pub few : m .activities ≤ 32
+  pub release-ticks : Holds m releases (λ a. release (m .thread a))
+  pub delay-ticks : Holds m delays (m .delay)
+  pub temporal-masks : Holds m temporal (m .temporal-mask)
+  pub data-masks : Holds m by-data (m .data-mask)
+  pub before-masks : Holds m befores (beforeMask m)
+
+-- "b must be below the row's own number", of every bit of a mask
+pub record Masked (m : Model) : Type 0 where
+  pub narrow : (a : ℕ) → a < m .activities → (m .temporal-mask a < 2 ^ 32) × (m .data-mask a < 2 ^ 32)
+  pub temporal : (a b : ℕ) → a < m .activities → b < 32 → T (temporally m b a) → b < a
+  pub by-data : (a b : ℕ) → a < m .activities → b < 32 → T (byData m b a) → b < a
+
+-- Tables that hold the machine's state.
+pub record Keeps (m : Model) (s : State) (owed ends : List ℕ) : Type 0 where
+  pub owed-ticks : Holds m owed (owes s)
+  pub end-ticks : Holds m ends (endOf s)

@@ -1,0 +1,139 @@
+-- The parts that the lines of specs/Lines.antt are made of, in the order in which they are written, and their lengths.
+-- Assumes nothing.
+use Prim.Native.Nat.{ℕ, zero, suc, _+_, _≤_, _<_}
+use native.Mathlib.Numerals.{add-one}
+use native.Mathlib.Omega.{arith}
+use mathlib.Core.List.{List, [], _∷_, _++_, append-assoc}
+use mathlib.Core.Path.{_≡_, refl, sym, ap, _∙_}
+use lib.ListN.{length, length-append}
+use Rattle.schedule.specs.Answers
+use Rattle.schedule.specs.Answers.{Answer, accepted, refused}
+use Rattle.schedule.specs.Bounded.{rows, total}
+use Rattle.schedule.specs.Plan.{Plan, plan}
+use Rattle.schedule.specs.Lines.{decimal, three, shown, checkLines, tickLine, runLines}
+use Rattle.laws.proofs.Tests.{up-to}
+use Rattle.text.specs.declared.Said.{Said}
+use Rattle.text.specs.Said.{verdictSaid, runSaid, plainName, strictName, runName, verdictWord, line}
+use Rattle.text.specs.Appended.{inBase, number, ticksOf, wordOf, tickText, tickLength}
+use Rattle.text.proofs.DigitLaws.{length-hex, hex-inBase, decimal-inBase}
+
+-- ---- numbers
+
+pub number-parts : (n end k : ℕ) → k ≡ length (decimal n) → number n end ≡ inBase 10 k n ++ (end ∷ [])
+unfolding number
+number-parts n end k e =
+    ap (λ (l : List ℕ). l ++ (end ∷ [])) (sym (decimal-inBase n) ∙ ap (λ (j : ℕ). inBase 10 j n) (sym e))
+
+pub length-number : (n end : ℕ) → length (number n end) ≡ length (decimal n) + 1
+unfolding number
+length-number n end = length-append (decimal n) (end ∷ [])
+
+pub three-parts : (a b c : ℕ) → three a b c ≡ number a 32 ++ (number b 32 ++ number c 10)
+unfolding three number
+three-parts a b c = simp append-assoc
+
+pub length-three : (a b c : ℕ)
+    → length (three a b c) ≡ length (decimal a) + length (decimal b) + length (decimal c) + 3
+length-three a b c =
+    simp (three-parts a b c, length-append, length-number) (omega arith)
+
+-- ---- lines
+
+pub length-line : (name : List ℕ) (s : Said)
+    → length (line name s) ≡ length name + length (verdictWord (s .passed)) + length (three (s .a) (s .b) (s .c))
+unfolding line
+length-line name s = simp length-append (omega arith)
+
+shown-said : (v : Answer Answers.Figures) (name : List ℕ) → name ++ shown v ≡ line name (verdictSaid v)
+unfolding shown line verdictWord
+shown-said (accepted f) name = refl
+shown-said (refused x) name = refl
+
+-- `plain` and `strict`
+pub check-parts : (plain strict : Answer Answers.Figures) {first second : Said} → first ≡ verdictSaid plain
+    → second ≡ verdictSaid strict → checkLines plain strict ≡ line plainName first ++ line strictName second
+unfolding checkLines
+check-parts plain strict e d = simp (e, d, ← shown-said)
+
+-- ---- ticks
+
+pub tick-parts : (t w : ℕ) → tickLine t w ≡ number t 32 ++ (inBase 16 8 w ++ (10 ∷ []))
+unfolding tickLine number
+tick-parts t w = simp (append-assoc, hex-inBase)
+
+pub length-tick : (t w : ℕ) → length (tickLine t w) ≡ length (decimal t) + 10
+unfolding tickLine
+length-tick t w = simp (length-append, length-hex) (omega arith)
+
+pub rows-none : (f : ℕ → List ℕ) → rows 0 f ≡ []
+unfolding rows
+rows-none f = refl
+
+rows-suc : (t : ℕ) (f : ℕ → List ℕ) → rows (suc t) f ≡ rows t f ++ f t
+unfolding rows
+rows-suc t f = refl
+
+pub rows-next : (t : ℕ) (f : ℕ → List ℕ) → rows (t + 1) f ≡ rows t f ++ f t
+rows-next t f = rw add-one (rows-suc t f)
+
+pub tick-text : (s : List ℕ) (t w : ℕ) → w ≡ wordOf s t → tickText s t ≡ tickLine t w
+unfolding tickText
+tick-text s t w e = rw e
+
+pub length-text : (s : List ℕ) (t : ℕ) → length (tickText s t) ≡ tickLength t
+unfolding tickText
+length-text s t = length-tick t (wordOf s t)
+
+pub total-none : total 0 tickLength ≡ 0
+unfolding total
+total-none = refl
+
+pub total-next : (t : ℕ) → total (t + 1) tickLength ≡ total t tickLength + tickLength t
+unfolding total
+total-next t = rw add-one
+
+pub length-ticks : (s : List ℕ) (h : ℕ) → length (rows h (tickText s)) ≡ total h tickLength
+unfolding total rows
+length-ticks s zero = refl
+length-ticks s (suc h) = simp (length-append, length-ticks s h, length-text)
+
+-- where all rows fit, each fits behind those before it
+pub rows-most : (f : ℕ → List ℕ) (h t : ℕ) → t < h → length (rows t f) + length (f t) ≤ length (rows h f)
+rows-most f zero t l = absurd (omega arith)
+rows-most f (suc h) t l =
+    let last : length (rows (suc h) f) ≡ length (rows h f) + length (f h) =
+    ap length (rows-suc h f) ∙ length-append (rows h f) (f h)
+    in
+    up-to (λ i. length (rows i f) + length (f i) ≤ length (rows (suc h) f)) h
+    (λ i s. omega (arith, last, rows-most f h i s))
+    (omega arith)
+    t
+    l
+
+-- `run`
+run-said : (v : Answer Answers.Written) (s : List ℕ)
+    → runLines v (plan s) ≡ rows (ticksOf v s) (tickText s) ++ line runName (runSaid v)
+unfolding runLines ticksOf tickText wordOf shown line verdictWord rows
+run-said (accepted w) s = refl
+run-said (refused x) s = refl
+
+pub run-parts : (v : Answer Answers.Written) (s : List ℕ) {h : ℕ} {said : Said} → h ≡ ticksOf v s → said ≡ runSaid v
+    → runLines v (plan s) ≡ rows h (tickText s) ++ line runName said
+run-parts v s e d = simp (e, d) (run-said v s)
+
+-- ---- two plans with the same horizon and words print the same
+
+rows-alike : (n : ℕ) (f g : ℕ → List ℕ) → ((i : ℕ) → i < n → f i ≡ g i) → rows n f ≡ rows n g
+unfolding rows
+rows-alike zero f g e = refl
+rows-alike (suc n) f g e = simp (rows-alike n f g (λ i l. e i (omega arith)), e n (omega arith))
+
+pub run-lines-alike : (v : Answer Answers.Written) (p q : Plan) → p .horizon ≡ q .horizon
+    → ((t : ℕ) → t < q .horizon → p .word t ≡ q .word t) → runLines v p ≡ runLines v q
+unfolding runLines
+run-lines-alike (accepted w) p q e d =
+    simp (
+      e,
+      rows-alike (q .horizon) (λ t. tickLine t (p .word t)) (λ t. tickLine t (q .word t)) (λ t l. ap (tickLine t) (d t l)),
+    )
+run-lines-alike (refused x) p q e d = refl

@@ -1,0 +1,57 @@
+-- `text::put_three` meets its contract: three numbers, each with the byte that ends it.
+-- Assumes nothing.
+use native.Mathlib.Omega.{arith}
+use borrow.Author.Needs.{needs}
+use Rattle.text.proofs.AppendLaws.{appended-both}
+use Rattle.text.proofs.TextLaws.{length-number, three-parts, length-three}
+use Rattle.text.proofs.put_three.Statement.{statement}
+use Rattle.text.proofs.put_three.Tie as tie
+
+put-number-requires : tie.Need-put-number-requires
+put-number-requires c κs =
+    let x = c .before .before .args in
+    omega (
+      arith,
+      length-three (x .a) (x .b) (x .c),
+      length-number (x .a) 32,
+      length-number (x .b) 32,
+      length-number (x .c) 10,
+    )
+
+put-number-requires-2 : tie.Need-put-number-requires-2
+put-number-requires-2 c κs =
+    let x = c .before .before .before .before .before .before .args in
+    omega (
+      arith,
+      length-three (x .a) (x .b) (x .c),
+      length-number (x .a) 32,
+      length-number (x .b) 32,
+      length-number (x .c) 10,
+    )
+
+put-number-requires-3 : tie.Need-put-number-requires-3
+put-number-requires-3 c κs =
+    let x = c .before .before .before .before .before .before .before .before .before .before .args in
+    omega (
+      arith,
+      length-three (x .a) (x .b) (x .c),
+      length-number (x .a) 32,
+      length-number (x .b) 32,
+      length-number (x .c) 10,
+    )
+
+same-length : tie.Need-same-length
+same-length c = search needs
+
+returns : tie.Need-returns
+returns c =
+    let x = c .before .before .before .before .before .before .before .before .before .before .before .before .before .args in
+    rw (three-parts (x .a) (x .b) (x .c))
+    (appended-both
+    (c .before .before .before .before .before .before .before .before .before .before .put-number .ensures)
+    (appended-both (c .before .before .before .before .before .before .put-number2 .ensures) (c .before .before .put-number3 .ensures)))
+
+pub put-three-spec : {M : Type 1} → statement M
+put-three-spec =
+    tie.close
+    (tie.spec put-number-requires put-number-requires-2 put-number-requires-3 same-length returns)

@@ -1,0 +1,49 @@
+-- `text::put_tick` meets its contract: the tick, the word's 8 digits and the end of the line.
+-- Assumes nothing.
+use native.Mathlib.Omega.{arith}
+use borrow.Author.Needs.{needs}
+use Rattle.text.proofs.AppendLaws.{appended-both}
+use Rattle.text.proofs.DigitLaws.{length-inBase}
+use Rattle.text.proofs.TextLaws.{length-number, tick-parts, length-tick}
+use Rattle.text.proofs.put_tick.Statement.{statement}
+use Rattle.text.proofs.put_tick.Tie as tie
+
+put-number-requires : tie.Need-put-number-requires
+put-number-requires c κs =
+    let x = c .before .before .args in
+    omega (arith, length-tick (x .t) (x .word), length-number (x .t) 32, length-inBase 16 8 (x .word))
+
+put-digits-requires : tie.Need-put-digits-requires
+put-digits-requires c κs =
+    let x = c .before .before .before .before .before .before .args in
+    omega (arith, length-tick (x .t) (x .word), length-number (x .t) 32, length-inBase 16 8 (x .word))
+
+slice-aggregate-put : tie.Need-slice-aggregate-put
+slice-aggregate-put c = search needs
+
+put-requires : tie.Need-put-requires
+put-requires c κs =
+    let x = c .before .before .before .before .before .before .before .before .before .before .before .args in
+    omega (arith, length-tick (x .t) (x .word), length-number (x .t) 32, length-inBase 16 8 (x .word))
+
+same-length : tie.Need-same-length
+same-length c = search needs
+
+returns : tie.Need-returns
+returns c =
+    let x = c .before .before .before .before .before .before .before .before .before .before .before .before .before .before .args in
+    rw (tick-parts (x .t) (x .word))
+    (appended-both
+    (c .before .before .before .before .before .before .before .before .before .before .before .put-number .ensures)
+    (appended-both (c .before .before .before .before .before .before .before .put-digits .ensures) (c .before .before .put .ensures)))
+
+pub put-tick-spec : {M : Type 1} → statement M
+put-tick-spec =
+    tie.close
+    (tie.spec
+    put-number-requires
+    put-digits-requires
+    slice-aggregate-put
+    put-requires
+    same-length
+    returns)
