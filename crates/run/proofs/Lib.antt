@@ -1,1 +1,4 @@
+pub mod GridLaws
 pub mod MaskLaws
+pub mod PlanLaws
+pub mod RunLaws

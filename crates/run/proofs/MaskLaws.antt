@@ -2,23 +2,29 @@
 -- Assumes nothing.
 use Prim.Native.Nat.{ℕ, _+_, _-_, _^_, _≤_, _<_}
 use native.Mathlib.Nat.{lt-of-le-of-lt, lt-of-lt-of-le}
+use native.Mathlib.Numerals.{add-one}
 use native.Mathlib.Omega.{arith}
-use mathlib.Core.Bool.{Bool, _&&_, not}
+use mathlib.Core.Bool.{Bool, true, false, _&&_, not, cond}
 use mathlib.Core.List.{List}
 use mathlib.Core.Logic.{_↔_, ⊎-elim}
 use mathlib.Core.Path.{_≡_, refl, sym, subst, ap, ap₂, _∙_}
 use lib.Bits.{bitAnd, and-le-l}
 use lib.Dec.{T, eqb, leb, ltb}
-use lib.ListN.{getD}
-use lib.Pow.{pow-mono, ones-sub-lt}
-use Rattle.schedule.specs.Bounded.{all, count, bit, wordOf, ones, _⇒_}
-use Rattle.schedule.specs.Model.{Model, temporally, byData}
-use Rattle.schedule.specs.Machine.{State, owes, endOf, endedBy, ready, before, rank, selected, wordAt}
-use Rattle.laws.proofs.Tests.{tests, T-and, T-not, T-all, T-implies, T-eqb}
+use lib.ListN.{length, getD, set, replicate, getD-replicate, length-set}
+use lib.Seq.{getD-set-same, getD-set-other}
+use lib.Pow.{pow-mono}
+use borrow.Author.Tests.{lt-ltb}
+use Rattle.schedule.specs.Bounded.{all, bit, wordOf, ones, _⇒_}
+use Rattle.schedule.specs.Model.{Model}
+use Rattle.schedule.specs.Machine.{State, owes, endedBy, ready, before, rank, selected, wordAt, initial, stateAt, machineWord}
+use Rattle.laws.proofs.Tests.{T-and, T-not, T-all, T-implies, T-leb, T-eqb, up-to}
 use Rattle.laws.proofs.Counting.{decT, T-ext, T-false, count-ext}
+use Rattle.laws.proofs.MachineLaws.{owes-next, end-next, getD-table}
 use Rattle.laws.proofs.Words.{wordOf-ext, wordOf-lt, bit-wordOf, bit-high, ones-count}
 use Rattle.bits.proofs.WordLaws.{bit-and, bit-not, zero-bits}
-use Rattle.run.specs.Masks.{covered, endedMask, readyFrom, selectedFrom, beforeMask, Tabled, Masked, Keeps}
+use Rattle.run.specs.Masks.{Holds, covered, endedFrom, endedMask, readyFrom, selectedFrom, beforeMask, readyMask, tickWord}
+use Rattle.run.specs.Tables.{Filled}
+use Rattle.run.specs.Masks.{Tabled, Masked, Keeps, Stepped}
 
 -- every bit of x is a bit of y, bit by bit
 pub covered-says : (x y : ℕ) → x < 2 ^ 32 → y < 2 ^ 32 → T (covered x y) ↔ ((b : ℕ) → b < 32 → T (bit x b) → T (bit y b))
@@ -47,3 +53,201 @@ covered-says x y hx hy = (there, back)
         (λ b l. bit-rest b l ∙ T-false _ (λ t.
         let both = T-and (bit x b) (not (bit y b)) .0 t in
         T-not (bit y b) .0 (both .1) (h b l (both .0)))))
+
+and-assoc : (a b c : Bool) → (a && (b && c)) ≡ ((a && b) && c)
+and-assoc true b c = refl
+and-assoc false b c = refl
+
+-- a mask whose bits stand below n is covered by the word of a predicate exactly when all its bits have the property
+covered-all : (n x : ℕ) (p : ℕ → Bool) → n ≤ 32 → x < 2 ^ 32 → ((b : ℕ) → b < 32 → T (bit x b) → b < n)
+    → covered x (wordOf n p) ≡ all n (λ b. bit x b ⇒ p b)
+covered-all n x p few small low = T-ext _ _ there back
+  where
+    narrow : wordOf n p < 2 ^ 32
+    narrow = lt-of-lt-of-le (wordOf-lt n p) (pow-mono few)
+
+    there : T (covered x (wordOf n p)) → T (all n (λ b. bit x b ⇒ p b))
+    there t =
+        T-all n (λ b. bit x b ⇒ p b) .1 (λ b l. T-implies (bit x b) (p b) .1 (λ h.
+        subst T (bit-wordOf n p b l) (covered-says x (wordOf n p) small narrow .0 t b (omega arith) h)))
+
+    back : T (all n (λ b. bit x b ⇒ p b)) → T (covered x (wordOf n p))
+    back t =
+        covered-says x (wordOf n p) small narrow .1 (λ b l h.
+        let lb = low b l h in
+        subst T (sym (bit-wordOf n p b lb)) (T-implies (bit x b) (p b) .0 (T-all n (λ b. bit x b ⇒ p b) .0 t b lb) h))
+
+module _ (m : Model) (release : ℕ → ℕ) (releases delays temporal by-data befores : List ℕ)
+    (tabled : Tabled m release releases delays temporal by-data befores) (masked : Masked m) where
+  -- the activities that have ended with their delay are those of the definition
+  ended-is : (s : State) (owed ends waits : List ℕ) (delay : ℕ → ℕ) (t : ℕ) → Keeps m s owed ends → Holds m waits delay
+      → endedMask (m .activities) owed ends waits t ≡ wordOf (m .activities) (λ b. endedBy s b (delay b) t)
+  unfolding endedFrom endedMask endedBy
+  ended-is s owed ends waits delay t keeps held =
+      wordOf-ext (m .activities) _ _ (λ b l.
+      ap₂ _&&_ (ap (λ (x : ℕ). eqb x 0) (keeps .owed-ticks b l))
+      (ap₂ (λ (x y : ℕ). leb (x + y) t) (keeps .end-ticks b l) (held b l)))
+
+  ready-is : (s : State) (owed ends none : List ℕ) (t : ℕ) → Keeps m s owed ends → Holds m none (λ _. 0)
+      → (a : ℕ) → a < m .activities
+      → readyFrom owed releases temporal by-data (endedMask (m .activities) owed ends delays t)
+      (endedMask (m .activities) owed ends none t) t a
+      ≡ ready m release t s a
+  unfolding readyFrom ready
+  ready-is s owed ends none t keeps held a l =
+      ap₂ _&&_ (ap (λ (x : ℕ). ltb 0 x) (keeps .owed-ticks a l))
+      (ap₂ _&&_ (ap (λ (x : ℕ). leb x t) (tabled .release-ticks a l))
+      (ap₂ _&&_
+      (ap₂ covered (tabled .temporal-masks a l) (ended-is s owed ends delays (m .delay) t keeps (tabled .delay-ticks))
+      ∙ covered-all (m .activities) (m .temporal-mask a) (λ b. endedBy s b (m .delay b) t) (tabled .few)
+      (masked .narrow a l .0) (λ b lb x. omega (arith, masked .temporal a b l lb x)))
+      (ap₂ covered (tabled .data-masks a l) (ended-is s owed ends none (λ _. 0) t keeps held)
+      ∙ covered-all (m .activities) (m .data-mask a) (λ b. endedBy s b 0 t) (tabled .few)
+      (masked .narrow a l .1) (λ b lb x. omega (arith, masked .by-data a b l lb x)))))
+      ∙ and-assoc (ltb 0 (owes s a)) (leb (release (m .thread a)) t) _
+
+  -- the ready mask holds the ready
+  pub ready-mask-is : (s : State) (owed ends none : List ℕ) (t : ℕ) → Keeps m s owed ends → Holds m none (λ _. 0)
+      → readyMask (m .activities) releases delays temporal by-data none owed ends t
+      ≡ wordOf (m .activities) (ready m release t s)
+  unfolding readyMask
+  ready-mask-is s owed ends none t keeps held =
+      wordOf-ext (m .activities) _ _ (ready-is s owed ends none t keeps held)
+
+  -- the ready that rank before a, counted
+  rank-is : (rdy : ℕ → Bool) (a : ℕ)
+      → ones (bitAnd (wordOf (m .activities) rdy) (beforeMask m a)) ≡ rank m rdy a
+  unfolding rank beforeMask
+  rank-is rdy a =
+      ones-count both n (tabled .few) clear
+      ∙ count-ext n (bit both) (λ b. rdy b && before m b a) (λ b l.
+      bit-and (wordOf n rdy) (wordOf n (λ b. before m b a)) b
+      ∙ ap₂ _&&_ (bit-wordOf n rdy b l) (bit-wordOf n (λ b. before m b a) b l))
+    where
+      n : ℕ
+      n = m .activities
+
+      both : ℕ
+      both = bitAnd (wordOf n rdy) (wordOf n (λ b. before m b a))
+
+      clear : (b : ℕ) → b < 32 → n ≤ b → ¬ T (bit both b)
+      clear b l h = bit-high both n b (lt-of-le-of-lt (and-le-l (wordOf n rdy) _) (wordOf-lt n rdy)) h
+
+  -- the selected mask holds the selected
+  selected-is : (rdy : ℕ → Bool) (a : ℕ) → a < m .activities
+      → selectedFrom (m .cores) (wordOf (m .activities) rdy) befores a ≡ selected m rdy a
+  unfolding selectedFrom selected
+  selected-is rdy a l =
+      ap₂ _&&_ (bit-wordOf (m .activities) rdy a l)
+      (ap (λ (x : ℕ). ltb x (m .cores))
+      (ap (λ (x : ℕ). ones (bitAnd (wordOf (m .activities) rdy) x)) (tabled .before-masks a l) ∙ rank-is rdy a))
+
+  -- a tick on whole words is the machine's
+  pub tick-is : (s : State) (owed ends : List ℕ) (t : ℕ) → Keeps m s owed ends
+      → tickWord (m .activities) (m .cores) releases delays temporal by-data befores owed ends t ≡ wordAt m release t s
+  unfolding tickWord wordAt
+  tick-is s owed ends t keeps =
+      ap (λ (w : ℕ). wordOf (m .activities) (selectedFrom (m .cores) w befores))
+      (ready-mask-is s owed ends (replicate 32 0) t keeps (λ b l. getD-replicate 32 b 0 0 (omega (arith, tabled .few))))
+      ∙ wordOf-ext (m .activities) _ _ (selected-is (ready m release t s))
+
+-- ---- the tables from tick to tick
+
+-- at the beginning: each activity owes its duration, and no end is known
+pub keeps-first : (m : Model) (release duration : ℕ → ℕ) (owed ends : List ℕ) → Holds m owed duration → Holds m ends (λ _. 0)
+    → Keeps m (stateAt m release duration 0) owed ends
+unfolding stateAt initial
+keeps-first m release duration owed ends h k = record {
+  owed-ticks = λ a l. h a l ∙ sym (getD-table (m .activities) duration a l);
+  end-ticks = λ a l. k a l ∙ sym (getD-table (m .activities) (λ _. 0) a l);
+}
+
+-- after a tick with the machine's word
+pub keeps-next : (m : Model) (release duration : ℕ → ℕ) (t word : ℕ) (owed ends owed′ ends′ : List ℕ)
+    → word ≡ machineWord m release duration t
+    → Keeps m (stateAt m release duration t) owed ends → Stepped (m .activities) word t owed ends owed′ ends′
+    → Keeps m (stateAt m release duration (t + 1)) owed′ ends′
+keeps-next m release duration t word owed ends owed′ ends′ e keeps next =
+    rw (add-one t)
+    (record {
+      owed-ticks = λ a l.
+          next .owed-less a l
+          ∙ ap₂ (λ (x w : ℕ). x - cond (bit w a) 1 0) (keeps .owed-ticks a l) e
+          ∙ sym (owes-next m release duration t a l);
+      end-ticks = λ a l.
+          next .ends-next a l
+          ∙ ap (λ (x : ℕ). cond (bit word a && eqb x 1) (t + 1) (getD ends a 0)) (keeps .owed-ticks a l)
+          ∙ ap₂ (λ (x w : ℕ). cond (bit w a && eqb (owes (stateAt m release duration t) a) 1) (t + 1) x) (keeps .end-ticks a l) e
+          ∙ sym (end-next m release duration t a l);
+    })
+
+-- ---- tables filled from the front
+
+-- one entry more
+pub table-next : (l : List ℕ) (a v : ℕ) (f : ℕ → ℕ) → a < length l → ((i : ℕ) → i < a → getD l i 0 ≡ f i) → v ≡ f a
+    → (i : ℕ) → i < a + 1 → getD (set l a v) i 0 ≡ f i
+table-next l a v f h below e =
+    rw (add-one a)
+    (up-to (λ i. getD (set l a v) i 0 ≡ f i) a
+    (λ i k. getD-set-other l a i v 0 (omega arith) ∙ below i k)
+    (getD-set-same l a v 0 h ∙ e))
+
+-- ---- the tests
+
+-- an end that has come leaves t less it for the delay
+pub passed-from : (end delay t : ℕ) → end ≤ t → leb delay (t - end) ≡ leb (end + delay) t
+passed-from end delay t h =
+    T-ext _ _ (λ x. T-leb (end + delay) t .1 (omega (arith, T-leb delay (t - end) .0 x)))
+    (λ x. T-leb delay (t - end) .1 (omega (arith, T-leb (end + delay) t .0 x)))
+
+-- what is not nothing is something
+pub pos-ltb : (x : ℕ) → (x ≡ 0 → ⊥) → ltb 0 x ≡ true
+pos-ltb x h = lt-ltb 0 x (omega arith)
+
+-- ---- a step, activity by activity
+
+-- the tables with the first a activities stepped, the others as they were
+pub record Stepping (word t a : ℕ) (owed ends owed′ ends′ : List ℕ) : Type 0 where
+  pub done : Stepped a word t owed ends owed′ ends′
+  pub owed-rest : (i : ℕ) → a ≤ i → getD owed′ i 0 ≡ getD owed i 0
+  pub ends-rest : (i : ℕ) → a ≤ i → getD ends′ i 0 ≡ getD ends i 0
+
+pub stepping-start : (word t : ℕ) (owed ends : List ℕ) → length owed ≡ 32 → length ends ≡ 32 → Stepping word t 0 owed ends owed ends
+stepping-start word t owed ends h k = record {
+  done = record { sized = (h, k); owed-less = λ a l. absurd (omega arith); ends-next = λ a l. absurd (omega arith) };
+  owed-rest = λ i l. refl;
+  ends-rest = λ i l. refl;
+}
+
+pub stepping-next : (word t a less end : ℕ) (active : Bool) (owed ends owed′ ends′ : List ℕ) → a < 32
+    → Stepping word t a owed ends owed′ ends′
+    → active ≡ bit word a
+    → less ≡ getD owed′ a 0 - cond active 1 0
+    → end ≡ cond (active && eqb (getD owed′ a 0) 1) (t + 1) (getD ends′ a 0)
+    → Stepping word t (a + 1) owed ends (set owed′ a less) (set ends′ a end)
+stepping-next word t a less end active owed ends owed′ ends′ l h e o f = record {
+  done = record {
+    sized = (length-set owed′ a less ∙ h .done .sized .0, length-set ends′ a end ∙ h .done .sized .1);
+    owed-less = table-next owed′ a less (λ i. getD owed i 0 - cond (bit word i) 1 0) (omega (arith, h .done .sized .0)) (h .done .owed-less)
+        (o ∙ ap₂ (λ (x : ℕ) (b : Bool). x - cond b 1 0) was e);
+    ends-next = table-next ends′ a end (λ i. cond (bit word i && eqb (getD owed i 0) 1) (t + 1) (getD ends i 0))
+        (omega (arith, h .done .sized .1)) (h .done .ends-next)
+        (f
+        ∙ ap₂ (λ (b : Bool) (x : ℕ). cond (b && eqb x 1) (t + 1) (getD ends′ a 0)) e was
+        ∙ ap (λ (x : ℕ). cond (bit word a && eqb (getD owed a 0) 1) (t + 1) x) (h .ends-rest a (omega arith)));
+  };
+  owed-rest = λ i k. getD-set-other owed′ a i less 0 (omega arith) ∙ h .owed-rest i (omega arith);
+  ends-rest = λ i k. getD-set-other ends′ a i end 0 (omega arith) ∙ h .ends-rest i (omega arith);
+}
+  where
+    was : getD owed′ a 0 ≡ getD owed a 0
+    was = h .owed-rest a (omega arith)
+
+pub filled-none : (f : ℕ → ℕ) (l : List ℕ) → length l ≡ 32 → Filled 0 f l
+filled-none f l h = record { sized = h; filled = λ a k. absurd (omega arith) }
+
+pub filled-next : (f : ℕ → ℕ) (a v : ℕ) (l : List ℕ) → a < 32 → Filled a f l → v ≡ f a → Filled (a + 1) f (set l a v)
+filled-next f a v l k h e = record {
+  sized = length-set l a v ∙ h .sized;
+  filled = table-next l a v f (omega (arith, h .sized)) (h .filled) e;
+}

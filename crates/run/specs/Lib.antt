@@ -1,1 +1,5 @@
+pub mod Front
+pub mod Grid
 pub mod Masks
+pub mod Outcome
+pub mod Tables

@@ -1,12 +1,12 @@
 -- The machine's tick on whole words, from tables: what has ended, what is ready, what is selected.
 -- Assumes nothing.
 use Prim.Native.Nat.{ℕ, _+_, _-_, _^_, _≤_, _<_}
-use mathlib.Core.Bool.{Bool, _&&_}
+use mathlib.Core.Bool.{Bool, _&&_, cond}
 use mathlib.Core.List.{List}
 use mathlib.Core.Path.{_≡_}
 use lib.Bits.{bitAnd}
 use lib.Dec.{T, eqb, leb, ltb}
-use lib.ListN.{getD}
+use lib.ListN.{length, getD, replicate}
 use Rattle.schedule.specs.Bounded.{bit, wordOf, ones}
 use Rattle.schedule.specs.Model.{Model, temporally, byData}
 use Rattle.schedule.specs.Machine.{State, owes, endOf, before}
@@ -19,9 +19,13 @@ Holds m table f = (a : ℕ) → a < m .activities → getD table a 0 ≡ f a
 unfoldable pub covered : ℕ → ℕ → Bool
 covered x y = eqb (bitAnd x ((2 ^ 32 - 1) - y)) 0
 
--- the activities that owe nothing and whose end and delay have passed by tick t
+-- activity b owes nothing, and its end and delay have passed by tick t
+unfoldable pub endedFrom : List ℕ → List ℕ → List ℕ → ℕ → ℕ → Bool
+endedFrom owed ends delays t b = eqb (getD owed b 0) 0 && leb (getD ends b 0 + getD delays b 0) t
+
+-- the activities that have ended so
 unfoldable pub endedMask : ℕ → List ℕ → List ℕ → List ℕ → ℕ → ℕ
-endedMask n owed ends delays t = wordOf n (λ b. eqb (getD owed b 0) 0 && leb (getD ends b 0 + getD delays b 0) t)
+endedMask n owed ends delays t = wordOf n (endedFrom owed ends delays t)
 
 -- whether activity a is ready at tick t, where `past` and `over` hold the temporal and data predecessors that have ended
 unfoldable pub readyFrom : List ℕ → List ℕ → List ℕ → List ℕ → ℕ → ℕ → ℕ → ℕ → Bool
@@ -56,3 +60,19 @@ pub record Masked (m : Model) : Type 0 where
 pub record Keeps (m : Model) (s : State) (owed ends : List ℕ) : Type 0 where
   pub owed-ticks : Holds m owed (owes s)
   pub end-ticks : Holds m ends (endOf s)
+
+-- the activities that are ready at tick t, where `none` holds no delay for any
+unfoldable pub readyMask : ℕ → List ℕ → List ℕ → List ℕ → List ℕ → List ℕ → List ℕ → List ℕ → ℕ → ℕ
+readyMask n releases delays temporal by-data none owed ends t =
+    wordOf n (readyFrom owed releases temporal by-data (endedMask n owed ends delays t) (endedMask n owed ends none t) t)
+
+-- the word of tick t
+unfoldable pub tickWord : ℕ → ℕ → List ℕ → List ℕ → List ℕ → List ℕ → List ℕ → List ℕ → List ℕ → ℕ → ℕ
+tickWord n c releases delays temporal by-data befores owed ends t =
+    wordOf n (selectedFrom c (readyMask n releases delays temporal by-data (replicate 32 0) owed ends t) befores)
+
+-- "Each owes one less, and one that now owes nothing ends at t + 1": the tables after tick t, from those before it
+pub record Stepped (n word t : ℕ) (owed ends owed′ ends′ : List ℕ) : Type 0 where
+  pub sized : (length owed′ ≡ 32) × (length ends′ ≡ 32)
+  pub owed-less : (a : ℕ) → a < n → getD owed′ a 0 ≡ getD owed a 0 - cond (bit word a) 1 0
+  pub ends-next : (a : ℕ) → a < n → getD ends′ a 0 ≡ cond (bit word a && eqb (getD owed a 0) 1) (t + 1) (getD ends a 0)

@@ -1,1 +1,71 @@
 // The priority run.
+use records::Pass;
+use records::choice::ChoiceRead;
+use records::model::ModelRead;
+use schedule::RunRefusal;
+use schedule::RunVerdict;
+use schedule::Written;
+ghost use mathlib.Core.Path.{_≡_};
+ghost use lib.ListN.{length};
+ghost use Rattle.schedule.specs.Model.{model};
+ghost use Rattle.schedule.specs.Choice.{choice};
+ghost use Rattle.schedule.specs.Answers.{outcome, runAnswer, runBuffer};
+ghost use Rattle.schedule.specs.Numbers.{runNumbers};
+ghost use Rattle.run.specs.Grid.{Runs};
+ghost use Rattle.run.specs.Outcome.{concluded, Standing, Answers};
+
+mod finish;
+mod grid;
+mod machine;
+mod plan;
+mod tables;
+
+// The answer once the grid stands in the buffer: "42 and 43 set the plan's length of bytes to 0", a success writes the rest
+// of the plan.
+fn conclude(s: &[u8], q: &[u8], owed: &[u32; 32], ends: &[u32; 32], out: &mut [u8]) -> RunVerdict
+    requires { ⌜ Standing (model (now s)) (choice (now q)) (now out) (now owed) (now ends) ⌝ }
+    ensures { λ r. ⌜ Answers (concluded (model (now (s .entry))) (choice (now (q .entry)))) (model (now (s .entry)))
+        (choice (now (q .entry))) (now (out .entry)) (now (out .exit)) r ⌝ }
+{
+    let length = plan::needed(s);
+    let judged = finish::judge(s, q, owed, ends);
+    if let Pass::Refused(x) = judged {
+        plan::clear(out, length as usize);
+        return RunVerdict::Refused(x);
+    }
+    let figures = finish::figures(s, q, ends, out);
+    plan::write_front(s, q, ends, out);
+    RunVerdict::Accepted(Written { length, figures })
+}
+
+// The run past its input: "41 buffer shorter than the plan; A is the length needed", then the machine.
+fn attempt(s: &[u8], q: &[u8], out: &mut [u8]) -> RunVerdict
+    requires { ⌜ Runs (model (now s)) ⌝ }
+    ensures { λ r. ⌜ Answers (outcome (model (now (s .entry))) (choice (now (q .entry))) (length (now (out .entry))))
+        (model (now (s .entry))) (choice (now (q .entry))) (now (out .entry)) (now (out .exit)) r ⌝ }
+{
+    let length = plan::needed(s);
+    if out.len() < length as usize {
+        return RunVerdict::Refused(finish::refusal(RunRefusal::Room, length));
+    }
+    let left = plan::write_grid(s, q, out);
+    let owed = left.owed;
+    let ends = left.ends;
+    conclude(s, q, &owed, &ends, out)
+}
+
+// The priority run on a model's and a choice's bytes, with the plan written into the lent buffer.
+pub fn run(model: &[u8], choice: &[u8], out: &mut [u8]) -> RunVerdict
+    ensures { λ r. ⌜ (runNumbers r ≡ runAnswer (now (model .entry)) (now (choice .entry)) (length (now (out .entry))))
+        × (now (out .exit) ≡ runBuffer (now (model .entry)) (now (choice .entry)) (now (out .entry))) ⌝ }
+{
+    let first = records::model::read(model);
+    if let ModelRead::Refused(x) = first {
+        return RunVerdict::Refused(x);
+    }
+    let second = records::choice::read(model, choice);
+    if let ChoiceRead::Refused(x) = second {
+        return RunVerdict::Refused(x);
+    }
+    attempt(model, choice, out)
+}

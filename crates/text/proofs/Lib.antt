@@ -1,4 +1,4 @@
-pub mod ReadLaws
 pub mod AppendLaws
 pub mod DigitLaws
 pub mod TextLaws
+pub mod PrintedLaws

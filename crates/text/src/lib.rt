@@ -1,116 +1,31 @@
 // The lines that gridcheck and gridrun print, made as bytes in a lent buffer: whole where they fit, else nothing. Their
 // length is found first; then every part is written behind the one before it.
-use schedule::FormRefusal;
+use numbers::form_number;
+use numbers::rule_number;
+use numbers::run_number;
 use schedule::Refusal;
-use schedule::RuleRefusal;
-use schedule::RunRefusal;
 use schedule::RunVerdict;
 use schedule::Verdict;
 ghost use mathlib.Core.Path.{_≡_};
 ghost use Prim.Native.Nat.{_+_, _*_, _%_, _^_, _≤_, _<_};
-ghost use lib.ListN.{length, getD};
+ghost use lib.ListN.{length};
 ghost use Rattle.schedule.specs.Bounded.{rows, total};
-ghost use Rattle.schedule.specs.Fields.{field};
 ghost use Rattle.schedule.specs.Plan;
-ghost use Rattle.schedule.specs.Numbers.{formNumber, ruleNumber, runNumber, refusalNumbers};
-ghost use Rattle.schedule.specs.Numbers.{verdictNumbers, runNumbers};
+ghost use Rattle.schedule.specs.Numbers.{refusalNumbers, verdictNumbers, runNumbers};
 ghost use Rattle.schedule.specs.Lines.{decimal, hexDigit, three, checkLines, tickLine, runLines};
 ghost use Rattle.text.specs.Printed.{leaves, printed};
 ghost use Rattle.text.specs.Said.{refusalSaid, verdictSaid, runSaid, verdictWord, line};
 ghost use Rattle.text.specs.Appended.{Appended, inBase, number, ticksOf, wordOf, tickText, tickLength};
 
-// ---- the plan's fields
-
-// The byte at a position, 0 past the end.
-fn byte(s: &[u8], at: usize) -> u8
-    ensures { λ r. ⌜ r ≡ getD (now (s .entry)) at 0 ⌝ }
-{
-    if at < s.len() { s[at] } else { 0 }
-}
-
-// One byte more at the end of a number of at most 3 bytes.
-fn shift_in(v: u32, b: u8) -> u32
-    requires { ⌜ v < 16777216 ⌝ }
-    ensures { λ r. ⌜ r ≡ v * 256 + b ⌝ }
-{
-    (v << 8) | (b as u32)
-}
-
-// "Multi-byte fields are big-endian and unsigned": the k bytes at a position.
-fn field(s: &[u8], at: usize, k: usize) -> u32
-    requires { ⌜ (k ≤ 4) × (at < 2 ^ 32) ⌝ }
-    ensures { λ r. ⌜ r ≡ field (now (s .entry)) at k ⌝ }
-{
-    let mut v: u32 = 0;
-    let mut j = 0;
-    while j < k {
-        v = shift_in(v, byte(s, at + j));
-        j += 1;
-    }
-    v
-}
-
-// The word of a tick: "n, m (1 each), H (2); n rows .. (2 each); m rows .. (2 each); H words of 4 bytes".
+// The word of a tick.
 fn word_at(plan: &[u8], t: u32) -> u32
     requires { ⌜ t < 65536 ⌝ }
     ensures { λ r. ⌜ r ≡ wordOf (now (plan .entry)) t ⌝ }
 {
-    let n = field(plan, 5, 1) as usize;
-    let m = field(plan, 6, 1) as usize;
-    field(plan, 9 + 4 * n + 4 * m + 4 * (t as usize), 4)
+    records::plan::word(plan, t as u16)
 }
 
 // ---- what is said of an answer
-
-// "A refusal answers its number, A and B".
-fn form_number(why: FormRefusal) -> u32
-    ensures { λ r. ⌜ r ≡ formNumber why ⌝ }
-{
-    match why {
-        FormRefusal::ModelSize => 1,
-        FormRefusal::ModelVersion => 2,
-        FormRefusal::ModelLimits => 3,
-        FormRefusal::ModelFormula => 4,
-        FormRefusal::ThreadRow => 5,
-        FormRefusal::ActivityRow => 6,
-        FormRefusal::MaskRow => 7,
-        FormRefusal::SecondSize => 8,
-        FormRefusal::SecondVersion => 9,
-        FormRefusal::SecondCounts => 10,
-        FormRefusal::SecondFormula => 11,
-        FormRefusal::ThreadChoice => 12,
-        FormRefusal::DurationChoice => 13,
-        FormRefusal::WordBits => 14,
-    }
-}
-
-fn rule_number(why: RuleRefusal) -> u32
-    ensures { λ r. ⌜ r ≡ ruleNumber why ⌝ }
-{
-    match why {
-        RuleRefusal::Window => 21,
-        RuleRefusal::Count => 22,
-        RuleRefusal::Deadline => 23,
-        RuleRefusal::Span => 24,
-        RuleRefusal::Temporal => 25,
-        RuleRefusal::Data => 26,
-        RuleRefusal::Eligible => 27,
-        RuleRefusal::Cores => 28,
-        RuleRefusal::Preemption => 29,
-        RuleRefusal::Idle => 30,
-        RuleRefusal::Tie => 31,
-    }
-}
-
-fn run_number(why: RunRefusal) -> u32
-    ensures { λ r. ⌜ r ≡ runNumber why ⌝ }
-{
-    match why {
-        RunRefusal::Room => 41,
-        RunRefusal::Owed => 42,
-        RunRefusal::Late => 43,
-    }
-}
 
 // "`accepted` and the three figures, or `refused` and number, A, B": which of them, and the three numbers.
 struct Said {
@@ -181,7 +96,7 @@ fn ticks(answer: RunVerdict, plan: &[u8]) -> u32
     ensures { λ r. ⌜ (r ≡ ticksOf (runNumbers answer) (now (plan .entry))) × (r < 65536) ⌝ }
 {
     match answer {
-        RunVerdict::Accepted(_) => field(plan, 7, 2),
+        RunVerdict::Accepted(_) => fields::be16(plan, 7) as u32,
         RunVerdict::Refused(_) => 0,
     }
 }

@@ -16,7 +16,11 @@ refusal-requires : tie.Need-refusal-requires
 refusal-requires c κs = search needs
 
 returns : tie.Need-returns
-returns c = rw (choice-head, told-no (c .before .before .length-holds .ensures) (c .before .if1 .taken)) (ap some (c .refusal .ensures))
+returns c =
+    rw (
+      choice-head,
+      told-no (c .before .before .length-holds .ensures) (c .before .if1 .taken),
+    ) (ap some (c .refusal .ensures))
 
 version-holds-requires : tie.Need-version-holds-requires
 version-holds-requires c κs = search needs
@@ -25,7 +29,12 @@ refusal-requires-2 : tie.Need-refusal-requires-2
 refusal-requires-2 c κs = search needs
 
 returns-2 : tie.Need-returns-2
-returns-2 c = rw (choice-head, told-yes (c .before .before .before .before .length-holds .ensures) (c .before .before .before .if1 .left), told-no (c .before .before .version-holds .ensures) (c .before .if2 .taken)) (ap some (c .refusal2 .ensures))
+returns-2 c =
+    rw (
+      choice-head,
+      told-yes (c .before .before .before .before .length-holds .ensures) (c .before .before .before .if1 .left),
+      told-no (c .before .before .version-holds .ensures) (c .before .if2 .taken),
+    ) (ap some (c .refusal2 .ensures))
 
 counts-hold-requires : tie.Need-counts-hold-requires
 counts-hold-requires c κs = search needs
@@ -34,7 +43,15 @@ refusal-requires-3 : tie.Need-refusal-requires-3
 refusal-requires-3 c κs = search needs
 
 returns-3 : tie.Need-returns-3
-returns-3 c = rw (choice-head, told-yes (c .before .before .before .before .before .before .length-holds .ensures) (c .before .before .before .before .before .if1 .left), told-yes (c .before .before .before .before .version-holds .ensures) (c .before .before .before .if2 .left), told-no (c .before .before .counts-hold .ensures) (c .before .if3 .taken)) (ap some (c .refusal3 .ensures))
+returns-3 c =
+    rw (
+      choice-head,
+      told-yes
+          (c .before .before .before .before .before .before .length-holds .ensures)
+          (c .before .before .before .before .before .if1 .left),
+      told-yes (c .before .before .before .before .version-holds .ensures) (c .before .before .before .if2 .left),
+      told-no (c .before .before .counts-hold .ensures) (c .before .if3 .taken),
+    ) (ap some (c .refusal3 .ensures))
 
 formula-requires : tie.Need-formula-requires
 formula-requires c κs = search needs
@@ -46,10 +63,36 @@ refusal-requires-4 : tie.Need-refusal-requires-4
 refusal-requires-4 c κs = search needs
 
 returns-4 : tie.Need-returns-4
-returns-4 c = rw (choice-head, told-yes (c .before .before .before .before .before .before .before .before .before .length-holds .ensures) (c .before .before .before .before .before .before .before .before .if1 .left), told-yes (c .before .before .before .before .before .before .before .version-holds .ensures) (c .before .before .before .before .before .before .if2 .left), told-yes (c .before .before .before .before .before .counts-hold .ensures) (c .before .before .before .before .if3 .left), told-no (c .before .before .formula-holds .ensures ∙ ap (eqb _) (c .before .before .before .formula .ensures)) (c .before .if4 .taken)) (ap some (c .refusal4 .ensures))
+returns-4 c =
+    rw (
+      choice-head,
+      told-yes
+          (c .before .before .before .before .before .before .before .before .before .length-holds .ensures)
+          (c .before .before .before .before .before .before .before .before .if1 .left),
+      told-yes
+          (c .before .before .before .before .before .before .before .version-holds .ensures)
+          (c .before .before .before .before .before .before .if2 .left),
+      told-yes
+          (c .before .before .before .before .before .counts-hold .ensures)
+          (c .before .before .before .before .if3 .left),
+      told-no
+          (c .before .before .formula-holds .ensures ∙ ap (eqb _) (c .before .before .before .formula .ensures))
+          (c .before .if4 .taken),
+    ) (ap some (c .refusal4 .ensures))
 
 returns-5 : tie.Need-returns-5
-returns-5 c = rw (choice-head, told-yes (c .before .before .before .before .before .before .before .before .length-holds .ensures) (c .before .before .before .before .before .before .before .if1 .left), told-yes (c .before .before .before .before .before .before .version-holds .ensures) (c .before .before .before .before .before .if2 .left), told-yes (c .before .before .before .before .counts-hold .ensures) (c .before .before .before .if3 .left), told-yes (c .before .formula-holds .ensures ∙ ap (eqb _) (c .before .before .formula .ensures)) (c .if4 .left))
+returns-5 c =
+    rw (
+      choice-head,
+      told-yes
+          (c .before .before .before .before .before .before .before .before .length-holds .ensures)
+          (c .before .before .before .before .before .before .before .if1 .left),
+      told-yes
+          (c .before .before .before .before .before .before .version-holds .ensures)
+          (c .before .before .before .before .before .if2 .left),
+      told-yes (c .before .before .before .before .counts-hold .ensures) (c .before .before .before .if3 .left),
+      told-yes (c .before .formula-holds .ensures ∙ ap (eqb _) (c .before .before .formula .ensures)) (c .if4 .left),
+    )
 
 pub head-spec : {M : Type 1} → statement M
 head-spec =

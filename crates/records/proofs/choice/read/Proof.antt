@@ -14,7 +14,11 @@ enum-known-first : tie.Need-enum-known-first
 enum-known-first c = search needs
 
 returns : tie.Need-returns
-returns c = rw (choice-form, sym (c .before .before .before .head .ensures) ∙ ap passNumbers (c .before .first .given .1))
+returns c =
+    rw (
+      choice-form,
+      sym (c .before .before .before .head .ensures) ∙ ap passNumbers (c .before .first .given .1),
+    )
 
 enum-told : tie.Need-enum-told
 enum-told c = search needs
@@ -26,7 +30,13 @@ enum-known-timings : tie.Need-enum-known-timings
 enum-known-timings c = search needs
 
 returns-2 : tie.Need-returns-2
-returns-2 c = rw (choice-form, sym (c .before .before .before .before .before .before .head .ensures) ∙ ap passNumbers (c .before .before .before .before .enum-told .given .1), sym (c .before .before .before .read-timings .ensures) ∙ ap passNumbers (c .before .timings .given .1))
+returns-2 c =
+    rw (
+      choice-form,
+      sym (c .before .before .before .before .before .before .head .ensures)
+          ∙ ap passNumbers (c .before .before .before .before .enum-told .given .1),
+      sym (c .before .before .before .read-timings .ensures) ∙ ap passNumbers (c .before .timings .given .1),
+    )
 
 enum-told-2 : tie.Need-enum-told-2
 enum-told-2 c = search needs
@@ -38,13 +48,29 @@ enum-known-durations : tie.Need-enum-known-durations
 enum-known-durations c = search needs
 
 returns-3 : tie.Need-returns-3
-returns-3 c = rw (choice-form, sym (c .before .before .before .before .before .before .before .before .before .head .ensures) ∙ ap passNumbers (c .before .before .before .before .before .before .before .enum-told .given .1), sym (c .before .before .before .before .before .before .read-timings .ensures) ∙ ap passNumbers (c .before .before .before .before .enum-told2 .given .1), sym (c .before .before .before .read-durations .ensures) ∙ ap passNumbers (c .before .durations .given .1))
+returns-3 c =
+    rw (
+      choice-form,
+      sym (c .before .before .before .before .before .before .before .before .before .head .ensures)
+          ∙ ap passNumbers (c .before .before .before .before .before .before .before .enum-told .given .1),
+      sym (c .before .before .before .before .before .before .read-timings .ensures)
+          ∙ ap passNumbers (c .before .before .before .before .enum-told2 .given .1),
+      sym (c .before .before .before .read-durations .ensures) ∙ ap passNumbers (c .before .durations .given .1),
+    )
 
 enum-told-3 : tie.Need-enum-told-3
 enum-told-3 c = search needs
 
 returns-4 : tie.Need-returns-4
-returns-4 c = rw (choice-form, sym (c .before .before .before .before .before .before .before .before .head .ensures) ∙ ap passNumbers (c .before .before .before .before .before .before .enum-told .given .1), sym (c .before .before .before .before .before .read-timings .ensures) ∙ ap passNumbers (c .before .before .before .enum-told2 .given .1), sym (c .before .before .read-durations .ensures) ∙ ap passNumbers (c .enum-told3 .given .1))
+returns-4 c =
+    rw (
+      choice-form,
+      sym (c .before .before .before .before .before .before .before .before .head .ensures)
+          ∙ ap passNumbers (c .before .before .before .before .before .before .enum-told .given .1),
+      sym (c .before .before .before .before .before .read-timings .ensures)
+          ∙ ap passNumbers (c .before .before .before .enum-told2 .given .1),
+      sym (c .before .before .read-durations .ensures) ∙ ap passNumbers (c .enum-told3 .given .1),
+    )
 
 pub read-spec : {M : Type 1} → statement M
 read-spec =

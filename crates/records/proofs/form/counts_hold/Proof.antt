@@ -24,7 +24,14 @@ byte-requires-4 c κs = search needs
 
 returns-2 : tie.Need-returns-2
 unfolding countsHold
-returns-2 c = rw (← c .before .before .before .before .byte .ensures, ← c .before .before .before .byte2 .ensures, eq-eqb _ _ (c .before .before .if1 .left), ← c .before .byte3 .ensures, ← c .byte4 .ensures)
+returns-2 c =
+    rw (
+      ← c .before .before .before .before .byte .ensures,
+      ← c .before .before .before .byte2 .ensures,
+      eq-eqb _ _ (c .before .before .if1 .left),
+      ← c .before .byte3 .ensures,
+      ← c .byte4 .ensures,
+    )
 
 pub counts-hold-spec : {M : Type 1} → statement M
 counts-hold-spec =

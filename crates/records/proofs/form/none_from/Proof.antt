@@ -11,7 +11,9 @@ below-requires c κs = search needs
 
 returns : tie.Need-returns
 unfolding noneFrom
-returns c = rw (c .below .ensures) (none-from 32 (c .before .args .word) (c .before .args .n) (c .before .fits .word .fits))
+returns c =
+    rw (c .below .ensures)
+    (none-from 32 (c .before .args .word) (c .before .args .n) (c .before .fits .word .fits))
 
 pub none-from-spec : {M : Type 1} → statement M
 none-from-spec = tie.close (tie.spec below-requires returns)

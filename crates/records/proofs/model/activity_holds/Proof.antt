@@ -16,7 +16,11 @@ returns-2 c = simp (lt-ltb _ _ (c .before .before .if1 .left), c .if2 .taken)
 
 returns-3 : tie.Need-returns-3
 unfolding activityHolds
-returns-3 c = simp (lt-ltb _ _ (c .before .before .before .if1 .left), le-leb 1 (c .before .before .before .before .before .before .args .row .«least_duration») (omega arith))
+returns-3 c =
+    simp (
+      lt-ltb _ _ (c .before .before .before .if1 .left),
+      le-leb 1 (c .before .before .before .before .before .before .args .row .«least_duration») (omega arith),
+    )
 
 pub activity-holds-spec : {M : Type 1} → statement M
 activity-holds-spec = tie.close (tie.spec returns returns-2 returns-3)

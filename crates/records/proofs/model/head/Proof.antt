@@ -17,7 +17,11 @@ refusal-requires : tie.Need-refusal-requires
 refusal-requires c κs = search needs
 
 returns : tie.Need-returns
-returns c = rw (model-head, told-no (c .before .before .length-holds .ensures) (c .before .if1 .taken)) (ap some (c .refusal .ensures))
+returns c =
+    rw (
+      model-head,
+      told-no (c .before .before .length-holds .ensures) (c .before .if1 .taken),
+    ) (ap some (c .refusal .ensures))
 
 version-holds-requires : tie.Need-version-holds-requires
 version-holds-requires c κs = search needs
@@ -26,7 +30,12 @@ refusal-requires-2 : tie.Need-refusal-requires-2
 refusal-requires-2 c κs = search needs
 
 returns-2 : tie.Need-returns-2
-returns-2 c = rw (model-head, told-yes (c .before .before .before .before .length-holds .ensures) (c .before .before .before .if1 .left), told-no (c .before .before .version-holds .ensures) (c .before .if2 .taken)) (ap some (c .refusal2 .ensures))
+returns-2 c =
+    rw (
+      model-head,
+      told-yes (c .before .before .before .before .length-holds .ensures) (c .before .before .before .if1 .left),
+      told-no (c .before .before .version-holds .ensures) (c .before .if2 .taken),
+    ) (ap some (c .refusal2 .ensures))
 
 counts-requires : tie.Need-counts-requires
 counts-requires c κs = search needs
@@ -38,7 +47,19 @@ refusal-requires-3 : tie.Need-refusal-requires-3
 refusal-requires-3 c κs = search needs
 
 returns-3 : tie.Need-returns-3
-returns-3 c = rw (model-head, told-yes (c .before .before .before .before .before .before .before .length-holds .ensures) (c .before .before .before .before .before .before .if1 .left), told-yes (c .before .before .before .before .before .version-holds .ensures) (c .before .before .before .before .if2 .left), told-no (c .before .before .limits-hold .ensures ∙ ap limitsHold (c .before .before .before .counts .ensures)) (c .before .if3 .taken)) (ap some (c .refusal3 .ensures))
+returns-3 c =
+    rw (
+      model-head,
+      told-yes
+          (c .before .before .before .before .before .before .before .length-holds .ensures)
+          (c .before .before .before .before .before .before .if1 .left),
+      told-yes
+          (c .before .before .before .before .before .version-holds .ensures)
+          (c .before .before .before .before .if2 .left),
+      told-no
+          (c .before .before .limits-hold .ensures ∙ ap limitsHold (c .before .before .before .counts .ensures))
+          (c .before .if3 .taken),
+    ) (ap some (c .refusal3 .ensures))
 
 counts-requires-2 : tie.Need-counts-requires-2
 counts-requires-2 c κs = search needs
@@ -53,10 +74,40 @@ refusal-requires-4 : tie.Need-refusal-requires-4
 refusal-requires-4 c κs = search needs
 
 returns-4 : tie.Need-returns-4
-returns-4 c = rw (model-head, told-yes (c .before .before .before .before .before .before .before .before .before .before .before .length-holds .ensures) (c .before .before .before .before .before .before .before .before .before .before .if1 .left), told-yes (c .before .before .before .before .before .before .before .before .before .version-holds .ensures) (c .before .before .before .before .before .before .before .before .if2 .left), told-yes (c .before .before .before .before .before .before .limits-hold .ensures ∙ ap limitsHold (c .before .before .before .before .before .before .before .counts .ensures)) (c .before .before .before .before .before .if3 .left), told-no (c .before .before .formula-holds .ensures ∙ ap (eqb _) (c .before .before .before .formula .ensures ∙ ap modelWanted (c .before .before .before .before .counts2 .ensures))) (c .before .if4 .taken)) (ap some (c .refusal4 .ensures))
+returns-4 c =
+    rw (
+      model-head,
+      told-yes
+          (c .before .before .before .before .before .before .before .before .before .before .before .length-holds .ensures)
+          (c .before .before .before .before .before .before .before .before .before .before .if1 .left),
+      told-yes
+          (c .before .before .before .before .before .before .before .before .before .version-holds .ensures)
+          (c .before .before .before .before .before .before .before .before .if2 .left),
+      told-yes
+          (c .before .before .before .before .before .before .limits-hold .ensures ∙ ap limitsHold (c .before .before .before .before .before .before .before .counts .ensures))
+          (c .before .before .before .before .before .if3 .left),
+      told-no
+          (c .before .before .formula-holds .ensures ∙ ap (eqb _) (c .before .before .before .formula .ensures ∙ ap modelWanted (c .before .before .before .before .counts2 .ensures)))
+          (c .before .if4 .taken),
+    ) (ap some (c .refusal4 .ensures))
 
 returns-5 : tie.Need-returns-5
-returns-5 c = rw (model-head, told-yes (c .before .before .before .before .before .before .before .before .before .before .length-holds .ensures) (c .before .before .before .before .before .before .before .before .before .if1 .left), told-yes (c .before .before .before .before .before .before .before .before .version-holds .ensures) (c .before .before .before .before .before .before .before .if2 .left), told-yes (c .before .before .before .before .before .limits-hold .ensures ∙ ap limitsHold (c .before .before .before .before .before .before .counts .ensures)) (c .before .before .before .before .if3 .left), told-yes (c .before .formula-holds .ensures ∙ ap (eqb _) (c .before .before .formula .ensures ∙ ap modelWanted (c .before .before .before .counts2 .ensures))) (c .if4 .left))
+returns-5 c =
+    rw (
+      model-head,
+      told-yes
+          (c .before .before .before .before .before .before .before .before .before .before .length-holds .ensures)
+          (c .before .before .before .before .before .before .before .before .before .if1 .left),
+      told-yes
+          (c .before .before .before .before .before .before .before .before .version-holds .ensures)
+          (c .before .before .before .before .before .before .before .if2 .left),
+      told-yes
+          (c .before .before .before .before .before .limits-hold .ensures ∙ ap limitsHold (c .before .before .before .before .before .before .counts .ensures))
+          (c .before .before .before .before .if3 .left),
+      told-yes
+          (c .before .formula-holds .ensures ∙ ap (eqb _) (c .before .before .formula .ensures ∙ ap modelWanted (c .before .before .before .counts2 .ensures)))
+          (c .if4 .left),
+    )
 
 pub head-spec : {M : Type 1} → statement M
 head-spec =

@@ -24,7 +24,11 @@ within-requires-2 c κs = search needs
 
 returns-2 : tie.Need-returns-2
 unfolding limitsHold
-returns-2 c = rw (told-yes (c .before .before .before .before .within .ensures) (c .before .before .before .if1 .left), told-no (c .before .within2 .ensures) (c .if2 .taken))
+returns-2 c =
+    rw (
+      told-yes (c .before .before .before .before .within .ensures) (c .before .before .before .if1 .left),
+      told-no (c .before .within2 .ensures) (c .if2 .taken),
+    )
 
 cast-within-3 : tie.Need-cast-within-3
 cast-within-3 c = search needs
@@ -34,14 +38,30 @@ within-requires-3 c κs = search needs
 
 returns-3 : tie.Need-returns-3
 unfolding limitsHold
-returns-3 c = rw (told-yes (c .before .before .before .before .before .before .before .within .ensures) (c .before .before .before .before .before .before .if1 .left), told-yes (c .before .before .before .before .within2 .ensures) (c .before .before .before .if2 .left), told-no (c .before .within3 .ensures) (c .if3 .taken))
+returns-3 c =
+    rw (
+      told-yes
+          (c .before .before .before .before .before .before .before .within .ensures)
+          (c .before .before .before .before .before .before .if1 .left),
+      told-yes (c .before .before .before .before .within2 .ensures) (c .before .before .before .if2 .left),
+      told-no (c .before .within3 .ensures) (c .if3 .taken),
+    )
 
 within-requires-4 : tie.Need-within-requires-4
 within-requires-4 c κs = search needs
 
 returns-4 : tie.Need-returns-4
 unfolding limitsHold
-returns-4 c = rw (told-yes (c .before .before .before .before .before .before .before .before .within .ensures) (c .before .before .before .before .before .before .before .if1 .left), told-yes (c .before .before .before .before .before .within2 .ensures) (c .before .before .before .before .if2 .left), told-yes (c .before .before .within3 .ensures) (c .before .if3 .left)) (c .within4 .ensures)
+returns-4 c =
+    rw (
+      told-yes
+          (c .before .before .before .before .before .before .before .before .within .ensures)
+          (c .before .before .before .before .before .before .before .if1 .left),
+      told-yes
+          (c .before .before .before .before .before .within2 .ensures)
+          (c .before .before .before .before .if2 .left),
+      told-yes (c .before .before .within3 .ensures) (c .before .if3 .left),
+    ) (c .within4 .ensures)
 
 pub limits-hold-spec : {M : Type 1} → statement M
 limits-hold-spec =

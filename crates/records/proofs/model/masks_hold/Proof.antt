@@ -16,7 +16,11 @@ none-from-requires-2 : tie.Need-none-from-requires-2
 none-from-requires-2 c κs = search needs
 
 returns-2 : tie.Need-returns-2
-returns-2 c = rw (masks-parts, told-yes (c .before .before .none-from .ensures) (c .before .if1 .left)) (c .none-from2 .ensures)
+returns-2 c =
+    rw (
+      masks-parts,
+      told-yes (c .before .before .none-from .ensures) (c .before .if1 .left),
+    ) (c .none-from2 .ensures)
 
 pub masks-hold-spec : {M : Type 1} → statement M
 masks-hold-spec = tie.close (tie.spec none-from-requires returns none-from-requires-2 returns-2)

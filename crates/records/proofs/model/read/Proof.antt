@@ -16,7 +16,11 @@ enum-known-first c = search needs
 
 returns : tie.Need-returns
 unfolding answer
-returns c = rw (model-form, sym (c .before .before .before .head .ensures) ∙ ap passNumbers (c .before .first .given .1))
+returns c =
+    rw (
+      model-form,
+      sym (c .before .before .before .head .ensures) ∙ ap passNumbers (c .before .first .given .1),
+    )
 
 enum-told : tie.Need-enum-told
 enum-told c = search needs
@@ -29,7 +33,13 @@ enum-known-threads c = search needs
 
 returns-2 : tie.Need-returns-2
 unfolding answer
-returns-2 c = rw (model-form, sym (c .before .before .before .before .before .before .head .ensures) ∙ ap passNumbers (c .before .before .before .before .enum-told .given .1), sym (c .before .before .before .read-threads .ensures) ∙ ap passNumbers (c .before .threads .given .1))
+returns-2 c =
+    rw (
+      model-form,
+      sym (c .before .before .before .before .before .before .head .ensures)
+          ∙ ap passNumbers (c .before .before .before .before .enum-told .given .1),
+      sym (c .before .before .before .read-threads .ensures) ∙ ap passNumbers (c .before .threads .given .1),
+    )
 
 enum-told-2 : tie.Need-enum-told-2
 enum-told-2 c = search needs
@@ -42,7 +52,15 @@ enum-known-activities c = search needs
 
 returns-3 : tie.Need-returns-3
 unfolding answer
-returns-3 c = rw (model-form, sym (c .before .before .before .before .before .before .before .before .before .head .ensures) ∙ ap passNumbers (c .before .before .before .before .before .before .before .enum-told .given .1), sym (c .before .before .before .before .before .before .read-threads .ensures) ∙ ap passNumbers (c .before .before .before .before .enum-told2 .given .1), sym (c .before .before .before .read-activities .ensures) ∙ ap passNumbers (c .before .activities .given .1))
+returns-3 c =
+    rw (
+      model-form,
+      sym (c .before .before .before .before .before .before .before .before .before .head .ensures)
+          ∙ ap passNumbers (c .before .before .before .before .before .before .before .enum-told .given .1),
+      sym (c .before .before .before .before .before .before .read-threads .ensures)
+          ∙ ap passNumbers (c .before .before .before .before .enum-told2 .given .1),
+      sym (c .before .before .before .read-activities .ensures) ∙ ap passNumbers (c .before .activities .given .1),
+    )
 
 enum-told-3 : tie.Need-enum-told-3
 enum-told-3 c = search needs
@@ -55,7 +73,17 @@ enum-known-masks c = search needs
 
 returns-4 : tie.Need-returns-4
 unfolding answer
-returns-4 c = rw (model-form, sym (c .before .before .before .before .before .before .before .before .before .before .before .before .head .ensures) ∙ ap passNumbers (c .before .before .before .before .before .before .before .before .before .before .enum-told .given .1), sym (c .before .before .before .before .before .before .before .before .before .read-threads .ensures) ∙ ap passNumbers (c .before .before .before .before .before .before .before .enum-told2 .given .1), sym (c .before .before .before .before .before .before .read-activities .ensures) ∙ ap passNumbers (c .before .before .before .before .enum-told3 .given .1), sym (c .before .before .before .read-all-masks .ensures) ∙ ap passNumbers (c .before .masks .given .1))
+returns-4 c =
+    rw (
+      model-form,
+      sym (c .before .before .before .before .before .before .before .before .before .before .before .before .head .ensures)
+          ∙ ap passNumbers (c .before .before .before .before .before .before .before .before .before .before .enum-told .given .1),
+      sym (c .before .before .before .before .before .before .before .before .before .read-threads .ensures)
+          ∙ ap passNumbers (c .before .before .before .before .before .before .before .enum-told2 .given .1),
+      sym (c .before .before .before .before .before .before .read-activities .ensures)
+          ∙ ap passNumbers (c .before .before .before .before .enum-told3 .given .1),
+      sym (c .before .before .before .read-all-masks .ensures) ∙ ap passNumbers (c .before .masks .given .1),
+    )
 
 enum-told-4 : tie.Need-enum-told-4
 enum-told-4 c = search needs
@@ -65,7 +93,17 @@ counts-requires c κs = search needs
 
 returns-5 : tie.Need-returns-5
 unfolding answer
-returns-5 c = rw (model-form, sym (c .before .before .before .before .before .before .before .before .before .before .before .before .head .ensures) ∙ ap passNumbers (c .before .before .before .before .before .before .before .before .before .before .enum-told .given .1), sym (c .before .before .before .before .before .before .before .before .before .read-threads .ensures) ∙ ap passNumbers (c .before .before .before .before .before .before .before .enum-told2 .given .1), sym (c .before .before .before .before .before .before .read-activities .ensures) ∙ ap passNumbers (c .before .before .before .before .enum-told3 .given .1), sym (c .before .before .before .read-all-masks .ensures) ∙ ap passNumbers (c .before .enum-told4 .given .1)) (ap accepted (c .counts .ensures))
+returns-5 c =
+    rw (
+      model-form,
+      sym (c .before .before .before .before .before .before .before .before .before .before .before .before .head .ensures)
+          ∙ ap passNumbers (c .before .before .before .before .before .before .before .before .before .before .enum-told .given .1),
+      sym (c .before .before .before .before .before .before .before .before .before .read-threads .ensures)
+          ∙ ap passNumbers (c .before .before .before .before .before .before .before .enum-told2 .given .1),
+      sym (c .before .before .before .before .before .before .read-activities .ensures)
+          ∙ ap passNumbers (c .before .before .before .before .enum-told3 .given .1),
+      sym (c .before .before .before .read-all-masks .ensures) ∙ ap passNumbers (c .before .enum-told4 .given .1),
+    ) (ap accepted (c .counts .ensures))
 
 pub read-spec : {M : Type 1} → statement M
 read-spec =

@@ -100,5 +100,3 @@ read-timings-spec =
     loop-less
     loop-again
     returns-2)
-
--- x

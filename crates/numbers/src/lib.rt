@@ -1,0 +1,56 @@
+// The paper's numbers of the refusals.
+use schedule::FormRefusal;
+use schedule::RuleRefusal;
+use schedule::RunRefusal;
+ghost use mathlib.Core.Path.{_≡_};
+ghost use Rattle.schedule.specs.Numbers.{formNumber, ruleNumber, runNumber};
+
+// "A refusal answers its number, A and B".
+pub fn form_number(why: FormRefusal) -> u32
+    ensures { λ r. ⌜ r ≡ formNumber why ⌝ }
+{
+    match why {
+        FormRefusal::ModelSize => 1,
+        FormRefusal::ModelVersion => 2,
+        FormRefusal::ModelLimits => 3,
+        FormRefusal::ModelFormula => 4,
+        FormRefusal::ThreadRow => 5,
+        FormRefusal::ActivityRow => 6,
+        FormRefusal::MaskRow => 7,
+        FormRefusal::SecondSize => 8,
+        FormRefusal::SecondVersion => 9,
+        FormRefusal::SecondCounts => 10,
+        FormRefusal::SecondFormula => 11,
+        FormRefusal::ThreadChoice => 12,
+        FormRefusal::DurationChoice => 13,
+        FormRefusal::WordBits => 14,
+    }
+}
+
+pub fn rule_number(why: RuleRefusal) -> u32
+    ensures { λ r. ⌜ r ≡ ruleNumber why ⌝ }
+{
+    match why {
+        RuleRefusal::Window => 21,
+        RuleRefusal::Count => 22,
+        RuleRefusal::Deadline => 23,
+        RuleRefusal::Span => 24,
+        RuleRefusal::Temporal => 25,
+        RuleRefusal::Data => 26,
+        RuleRefusal::Eligible => 27,
+        RuleRefusal::Cores => 28,
+        RuleRefusal::Preemption => 29,
+        RuleRefusal::Idle => 30,
+        RuleRefusal::Tie => 31,
+    }
+}
+
+pub fn run_number(why: RunRefusal) -> u32
+    ensures { λ r. ⌜ r ≡ runNumber why ⌝ }
+{
+    match why {
+        RunRefusal::Room => 41,
+        RunRefusal::Owed => 42,
+        RunRefusal::Late => 43,
+    }
+}

@@ -1,0 +1,451 @@
+-- What the run answers and leaves: rules 42 and 43 from the tables, and the buffer from its pieces.
+-- Assumes nothing.
+use Prim.Native.Nat.{ℕ, zero, suc, _+_, _-_, _*_, _≤_, _<_}
+use native.Mathlib.Decide.{decLt}
+use native.Mathlib.Nat.{lt-of-lt-of-le}
+use native.Mathlib.Omega.{arith}
+use mathlib.Core.Bool.{Bool, true, false, _&&_, not, cond}
+use mathlib.Core.List.{List, [], _∷_, _++_, append-assoc}
+use mathlib.Core.Logic.{_⊎_, inl, inr, ⊎-elim}
+use mathlib.Core.Option.{Option, some, none}
+use mathlib.Core.Path.{_≡_, refl, sym, subst, ap, ap₂, _∙_}
+use lib.Dec.{T, eqb, leb, ltb}
+use lib.ListN.{length, getD, take, drop, replicate, length-append}
+use lib.Pow.{pow-mono}
+use lib.Seq.{drop-at, length-take-le}
+use borrow.Author.Tests.{lt-ltb, le-ltb, eq-eqb, ne-eqb}
+use Rattle.schedule.specs.Bounded.{lowest, bit, ones, least, _⇒_}
+use Rattle.schedule.specs.Fields.{Bytes}
+use Rattle.schedule.specs.Rule.{Rule, Refusal, break, firstBreak}
+use Rattle.schedule.specs.declared.Figures.{Figures as Shown}
+use Rattle.schedule.specs.declared.Refusal.{Refusal as Declared}
+use Rattle.schedule.specs.declared.RunVerdict.{RunVerdict}
+use Rattle.schedule.specs.Numbers.{refusalNumbers, figureNumbers, runNumbers}
+use Rattle.schedule.specs.Model.{Model, model, modelForm, limitsRule, maskRule}
+use Rattle.schedule.specs.Choice.{Choice, choice, choiceForm}
+use Rattle.schedule.specs.Plan.{planBytes}
+use Rattle.schedule.specs.Machine.{owes, endOf, initial, stateAt, machineWord, machineStart, machineEnd}
+use Rattle.schedule.specs.Checks.{deadlineRule}
+use Rattle.schedule.specs.Answers.{Answer, accepted, refused, answer, figures, Written, machinePlan, owedRule, runRules}
+use Rattle.schedule.specs.Answers.{lengthNeeded, runChecks, outcome, runAnswer, bufferAfter, runBuffer}
+use Rattle.laws.proofs.Tests.{T-not}
+use Rattle.laws.proofs.Counting.{decT}
+use Rattle.laws.proofs.Lowest.{Lowest, lowest-is}
+use Rattle.laws.proofs.FieldLaws.{length-bytes, field-lt}
+use Rattle.laws.proofs.Parts.{Stands, stands-field, stands-row}
+use Rattle.laws.proofs.RowLaws.{refusalAt, ClearTo, clear-end, clear-stop, row-clear, row-broken}
+use Rattle.laws.proofs.Sums.{total-ext, greatest-ext}
+use Rattle.laws.proofs.MachineLaws.{end-next, word-lt, getD-table}
+use Rattle.laws.proofs.PlanBytes.{length-planBytes}
+use Rattle.laws.proofs.VerdictLaws.{written}
+use Rattle.laws.proofs.FirstBreak.{none-iff, some-iff, append-none, append-some}
+use Rattle.laws.proofs.Sound.{modelForm-sound, runChecks-sound, runRules-sound}
+use Rattle.laws.proofs.RuleNumbers.{first-broken-number, input-numbers, run-numbers}
+use Rattle.fields.specs.Put.{put}
+use Rattle.fields.proofs.PutLaws.{put-at, put-off, put-ext, put-back, put-front, put-fits, length-put}
+use Rattle.run.specs.Masks.{Holds}
+use Rattle.run.specs.Grid.{gridBytes, Runs, Placed}
+use Rattle.run.specs.Outcome.{concluded, Stopped, Standing, Answers}
+use Rattle.run.specs.Front.{pairRows, headBytes, frontBytes, frontIn, gridAt, wordIn, startIn, usageIn, figuresIn, onTime}
+use Rattle.run.proofs.GridLaws.{length-grid}
+use Rattle.run.proofs.PlanLaws.{length-head, length-pairs, pairs-ext}
+
+-- ---- a rule of one column, from the lowest row that breaks it
+
+twice : (t : Bool) → (¬ T (not t)) → T t
+twice t f = ⊎-elim (λ x. x) (λ x. absurd (f (T-not t .1 x))) (decT t)
+
+module _ (r : Rule) (one : r .columns ≡ 1) (i : ℕ) (low : Lowest (r .rows) (λ a. not (r .test a 0)) i) where
+  clear-rows : ClearTo r i
+  unfolding ClearTo
+  clear-rows a l =
+      row-clear r a (λ b k.
+      let z : b ≡ 0 = omega (arith, one) in
+      subst (λ (x : ℕ). T (r .test a x)) (sym z) (twice (r .test a 0) (low .none-below a l)))
+
+  pub break-at : i < r .rows → break r ≡ some (refusalAt r i 0)
+  break-at l =
+      clear-stop r i (refusalAt r i 0) clear-rows l
+      (row-broken r i 0 (omega (arith, one)) (λ j k. absurd (omega arith)) (T-not (r .test i 0) .0 (low .found l)))
+
+  pub break-none-at : r .rows ≤ i → break r ≡ none
+  break-none-at l =
+      let e : i ≡ r .rows = omega (arith, low .bound) in
+      clear-end r (subst (λ (k : ℕ). ClearTo r k) e clear-rows)
+
+lowest-ext : (n : ℕ) (p q : ℕ → Bool) → ((i : ℕ) → i < n → p i ≡ q i) → lowest n p ≡ lowest n q
+unfolding lowest
+lowest-ext zero p q h = refl
+lowest-ext (suc n) p q h =
+    ap₂ (λ (i : ℕ) (b : Bool). cond (ltb i n) i (cond b n (suc n))) (lowest-ext n p q (λ i l. h i (omega arith))) (h n (omega arith))
+
+is-lowest : (n : ℕ) (p : ℕ → Bool) (i : ℕ) → i ≡ lowest n p → Lowest n p i
+is-lowest n p i e = subst (Lowest n p) (sym e) (lowest-is n p)
+
+-- ---- rules 42 and 43, from the tables
+
+first-breaks : (r : Rule) (rs : List Rule) (x : Refusal) → break r ≡ some x → firstBreak (r ∷ rs) ≡ some x
+unfolding firstBreak
+first-breaks r rs x e = ap (λ (o : Option Refusal). elim o [ some y ↦ some y | none ↦ firstBreak rs ]) e
+
+first-holds : (r : Rule) (rs : List Rule) → break r ≡ none → firstBreak (r ∷ rs) ≡ firstBreak rs
+unfolding firstBreak
+first-holds r rs e = ap (λ (o : Option Refusal). elim o [ some y ↦ some y | none ↦ firstBreak rs ]) e
+
+none-left : firstBreak [] ≡ none
+unfolding firstBreak
+none-left = refl
+
+module _ (m : Model) (q : Choice) (owed ends : List ℕ) (stopped : Stopped m q owed ends) where
+  owing-is : (i : ℕ) → i ≡ lowest (m .activities) (λ a. not (eqb (getD owed a 0) 0))
+      → Lowest (owedRule m q .rows) (λ a. not (owedRule m q .test a 0)) i
+  unfolding owedRule
+  owing-is i e =
+      is-lowest (m .activities) _ i (e
+      ∙ lowest-ext (m .activities) _ _ (λ a l. ap (λ (x : ℕ). not (eqb x 0)) (stopped .owed-ticks a l)))
+
+  late-is : (i : ℕ) (periods : List ℕ) → Holds m periods (λ a. q .period (m .thread a))
+      → i ≡ lowest (m .activities) (λ a. not (onTime periods ends a))
+      → Lowest (deadlineRule 43 m (q .period) (machineEnd m (q .release) (q .duration)) .rows)
+      (λ a. not (deadlineRule 43 m (q .period) (machineEnd m (q .release) (q .duration)) .test a 0)) i
+  unfolding deadlineRule onTime
+  late-is i periods held e =
+      is-lowest (m .activities) _ i (e
+      ∙ lowest-ext (m .activities) _ _ (λ a l.
+      ap₂ (λ (p x : ℕ). not (not (eqb p 0) ⇒ leb x p)) (held a l) (stopped .end-ticks a l)))
+
+  pub owed-first : (i : ℕ) → i ≡ lowest (m .activities) (λ a. not (eqb (getD owed a 0) 0)) → i < m .activities
+      → firstBreak (runRules m q) ≡ some (record { number = 42; A = i; B = 0 })
+  unfolding runRules owedRule
+  owed-first i e l = first-breaks (owedRule m q) _ _ (break-at (owedRule m q) refl i (owing-is i e) l)
+
+  owed-none : (i : ℕ) → i ≡ lowest (m .activities) (λ a. not (eqb (getD owed a 0) 0)) → m .activities ≤ i
+      → break (owedRule m q) ≡ none
+  unfolding owedRule
+  owed-none i e l = break-none-at (owedRule m q) refl i (owing-is i e) l
+
+  pub late-first : (i j : ℕ) (periods : List ℕ) → Holds m periods (λ a. q .period (m .thread a))
+      → i ≡ lowest (m .activities) (λ a. not (eqb (getD owed a 0) 0)) → m .activities ≤ i
+      → j ≡ lowest (m .activities) (λ a. not (onTime periods ends a)) → j < m .activities
+      → firstBreak (runRules m q) ≡ some (record { number = 43; A = j; B = 0 })
+  unfolding runRules deadlineRule
+  late-first i j periods held e l f k =
+      first-holds (owedRule m q) _ (owed-none i e l)
+      ∙ first-breaks (deadlineRule 43 m (q .period) (machineEnd m (q .release) (q .duration))) [] _
+      (break-at (deadlineRule 43 m (q .period) (machineEnd m (q .release) (q .duration))) refl j (late-is j periods held f) k)
+
+  pub none-late : (i j : ℕ) (periods : List ℕ) → Holds m periods (λ a. q .period (m .thread a))
+      → i ≡ lowest (m .activities) (λ a. not (eqb (getD owed a 0) 0)) → m .activities ≤ i
+      → j ≡ lowest (m .activities) (λ a. not (onTime periods ends a)) → m .activities ≤ j
+      → firstBreak (runRules m q) ≡ none
+  unfolding runRules deadlineRule
+  none-late i j periods held e l f k =
+      first-holds (owedRule m q) _ (owed-none i e l)
+      ∙ first-holds (deadlineRule 43 m (q .period) (machineEnd m (q .release) (q .duration))) []
+      (break-none-at (deadlineRule 43 m (q .period) (machineEnd m (q .release) (q .duration))) refl j (late-is j periods held f) k)
+      ∙ none-left
+
+-- an end is no later than the tick
+end-le : (m : Model) (release duration : ℕ → ℕ) (t a : ℕ) → a < m .activities → endOf (stateAt m release duration t) a ≤ t
+unfolding stateAt initial
+end-le m release duration zero a l = omega (arith, getD-table (m .activities) (λ _. 0) a l)
+end-le m release duration (suc t) a l =
+    subst (λ (x : ℕ). x ≤ suc t) (sym (end-next m release duration t a l))
+    (one (end-le m release duration t a l) (bit (machineWord m release duration t) a && eqb (owes (stateAt m release duration t) a) 1))
+  where
+    one : endOf (stateAt m release duration t) a ≤ t → (b : Bool) → cond b (t + 1) (endOf (stateAt m release duration t) a) ≤ suc t
+    one h true = omega arith
+    one h false = omega arith
+
+-- ---- the words, starts, ends and figures of the buffer
+
+module _ (m : Model) (q : Choice) (out owed ends : List ℕ) (stands : Standing m q out owed ends) where
+  fits : gridAt m + length (gridBytes m q (m .horizon)) ≤ length out
+  unfolding lengthNeeded
+  fits = omega (arith, length-grid m q (m .horizon), stands .room)
+
+  word-in : (t : ℕ) → t < m .horizon → wordIn out (gridAt m) t ≡ machineWord m (q .release) (q .duration) t
+  unfolding gridBytes
+  word-in t l =
+      stands-field out (gridAt m + 4 * t) 4 (machineWord m (q .release) (q .duration) t)
+      (stands-row out (gridAt m) 4 (m .horizon) _ (λ u _. length-bytes 4 (machineWord m (q .release) (q .duration) u)) whole t l)
+      (lt-of-lt-of-le (word-lt m (q .release) (q .duration) t) (pow-mono (stands .stopped .runs .few)))
+    where
+      whole : Stands out (gridAt m) (gridBytes m q (m .horizon))
+      whole i k =
+          ap (λ (b : List ℕ). getD b (gridAt m + i) 0) (sym (stands .grid)) ∙ put-at (gridAt m) (gridBytes m q (m .horizon)) out fits i k
+
+  start-in : (a : ℕ) → startIn out (gridAt m) (m .horizon) a ≡ machineStart m (q .release) (q .duration) a
+  unfolding startIn machineStart
+  start-in a = lowest-ext (m .horizon) _ _ (λ t l. ap (λ (w : ℕ). bit w a) (word-in t l))
+
+  pub figures-are : figuresIn m q out ends ≡ figures m (machinePlan m q)
+  unfolding figuresIn usageIn figures machinePlan
+  figures-are =
+      let u = total-ext (m .horizon) (λ t. ones (wordIn out (gridAt m) t)) (λ t. ones (machineWord m (q .release) (q .duration) t))
+      (λ t l. ap ones (word-in t l)) in
+      let e = greatest-ext (m .activities) (λ a. getD ends a 0) (machineEnd m (q .release) (q .duration)) (stands .stopped .end-ticks) in
+      λ i. record { usage = u i; capacity = m .cores * m .horizon; makespan = e i - least (m .threads) (q .release) }
+
+  -- the front and the grid are the plan
+  front-plan : frontIn m q out ends ++ gridBytes m q (m .horizon) ≡ planBytes (machinePlan m q)
+  unfolding frontIn frontBytes headBytes pairRows gridBytes planBytes machinePlan
+  front-plan =
+      ap (λ (b : List ℕ). (headBytes (m .threads) (m .activities) (m .horizon) ++ (pairRows (m .threads) (q .release) (q .period) ++ b)) ++ gridBytes m q (m .horizon))
+      (pairs-ext (m .activities) _ _ (machineStart m (q .release) (q .duration)) (machineEnd m (q .release) (q .duration))
+      (λ a l. start-in a) (stands .stopped .end-ticks))
+      ∙ opened
+    where
+      opened : (headBytes (m .threads) (m .activities) (m .horizon)
+          ++ (pairRows (m .threads) (q .release) (q .period)
+          ++ pairRows (m .activities) (machineStart m (q .release) (q .duration)) (machineEnd m (q .release) (q .duration))))
+          ++ gridBytes m q (m .horizon)
+          ≡ planBytes (machinePlan m q)
+      opened = simp append-assoc
+
+  length-front : length (frontIn m q out ends) ≡ gridAt m
+  unfolding frontIn frontBytes
+  length-front =
+      simp length-append
+      (omega (
+        arith,
+        length-head (m .threads) (m .activities) (m .horizon),
+        length-pairs (m .threads) (q .release) (q .period),
+        length-pairs (m .activities) (startIn out (gridAt m) (m .horizon)) (λ a. getD ends a 0),
+      ))
+
+  -- the front written before the grid leaves the plan and what stood behind it
+  pub plan-written : put 0 (frontIn m q out ends) out ≡ planBytes (machinePlan m q) ++ drop (lengthNeeded m) out
+  unfolding lengthNeeded machinePlan
+  plan-written =
+      let front : List ℕ = frontIn m q out ends in
+      let grid : List ℕ = gridBytes m q (m .horizon) in
+      let behind : 0 + length front ≡ gridAt m = omega (arith, length-front) in
+      ap (put 0 front) (sym (stands .grid) ∙ ap (λ (k : ℕ). put k grid out) (sym behind))
+      ∙ put-back 0 front grid out (omega (arith, length-append front grid, length-front, fits))
+      ∙ put-front (front ++ grid) out (omega (arith, length-append front grid, length-front, fits))
+      ∙ ap (λ (b : List ℕ). b ++ drop (length b) out) front-plan
+      ∙ ap (λ (k : ℕ). planBytes (machinePlan m q) ++ drop k out) (length-planBytes (machinePlan m q))
+
+  pub ends-small : (a : ℕ) → a < m .activities → getD ends a 0 < 65536
+  unfolding machineEnd
+  ends-small a l =
+      omega (
+        arith,
+        stands .stopped .end-ticks a l,
+        end-le m (q .release) (q .duration) (m .horizon) a l,
+        stands .stopped .runs .short,
+      )
+
+-- ---- what is put in a place twice, and what stands behind it
+
+put-twice : (at : ℕ) (b l : List ℕ) → at + length b ≤ length l → put at b (put at b l) ≡ put at b l
+put-twice at b l h =
+    put-ext at b l (put at b (put at b l)) h (length-put at b (put at b l) ∙ length-put at b l)
+    (λ i k. put-at at b (put at b l) (omega (arith, length-put at b l)) i k)
+    (λ i o. put-off at b (put at b l) i o ∙ put-off at b l i o)
+
+drop-put : (at n : ℕ) (b l : List ℕ) → n ≡ at + length b → n ≤ length l → drop n (put at b l) ≡ drop n l
+drop-put at n b l e h =
+    ap (drop n) (put-fits at b l (omega arith) ∙ ap (λ (k : ℕ). take at l ++ b ++ drop k l) (sym e))
+    ∙ drop-at (take at l ++ b) (drop n l) n
+    (length-append (take at l) b ∙ ap (λ (k : ℕ). k + length b) (length-take-le at l (omega arith)) ∙ sym e)
+
+placed-fits : (m : Model) (q : Choice) (l : List ℕ) → lengthNeeded m ≤ length l
+    → lengthNeeded m ≡ gridAt m + length (gridBytes m q (m .horizon))
+unfolding lengthNeeded
+placed-fits m q l h = omega (arith, length-grid m q (m .horizon))
+
+-- the grid that was placed stands
+pub placed-stands : (m : Model) (q : Choice) (l out owed ends : List ℕ) → Runs m → lengthNeeded m ≤ length l
+    → Placed m q l out owed ends → Standing m q out owed ends
+placed-stands m q l out owed ends runs room p =
+    let e = placed-fits m q l room in
+    record {
+      room = omega (arith, ap length (p .written), length-put (gridAt m) (gridBytes m q (m .horizon)) l);
+      grid = ap (put (gridAt m) (gridBytes m q (m .horizon))) (p .written)
+          ∙ put-twice (gridAt m) (gridBytes m q (m .horizon)) l (omega arith)
+          ∙ sym (p .written);
+      stopped = record { runs = runs; owed-ticks = p .owed-ticks; end-ticks = p .end-ticks };
+    }
+
+-- ---- the answers where there is room
+
+-- a run refusal is 42 or 43
+run-number : (m : Model) (q : Choice) (x : Refusal) → firstBreak (runRules m q) ≡ some x → (x .number ≡ 42) ⊎ (x .number ≡ 43)
+run-number m q x e =
+    first-broken-number (λ k. (k ≡ 42) ⊎ (k ≡ 43)) (runRules m q) x (run-numbers m q)
+    (some-iff (runRules m q) x (runRules-sound m q) .0 e)
+
+cleared : (m : Model) (q : Choice) (x : Refusal) (l : List ℕ) → (x .number ≡ 42) ⊎ (x .number ≡ 43)
+    → bufferAfter (refused x) m q l ≡ replicate (lengthNeeded m) 0 ++ drop (lengthNeeded m) l
+unfolding bufferAfter
+cleared m q x l (inl e) = rw (eq-eqb (x .number) 42 e)
+cleared m q x l (inr e) = rw (ne-eqb (x .number) 42 (omega arith), eq-eqb (x .number) 43 e)
+
+kept : (m : Model) (q : Choice) (x : Refusal) (l : List ℕ) → (¬ (x .number ≡ 42)) → (¬ (x .number ≡ 43))
+    → bufferAfter (refused x) m q l ≡ l
+unfolding bufferAfter
+kept m q x l f g = rw (ne-eqb (x .number) 42 f, ne-eqb (x .number) 43 g)
+
+accepted-same : (m : Model) (q : Choice) (l l′ : List ℕ) → drop (lengthNeeded m) l ≡ drop (lengthNeeded m) l′
+    → bufferAfter (accepted (written m q)) m q l ≡ bufferAfter (accepted (written m q)) m q l′
+unfolding bufferAfter
+accepted-same m q l l′ e = ap (λ (b : List ℕ). planBytes (machinePlan m q) ++ b) e
+
+concluded-some : (m : Model) (q : Choice) (x : Refusal) → firstBreak (runRules m q) ≡ some x → concluded m q ≡ refused x
+unfolding concluded answer
+concluded-some m q x e = ap (λ (o : Option Refusal). answer o (written m q)) e
+
+concluded-none : (m : Model) (q : Choice) → firstBreak (runRules m q) ≡ none → concluded m q ≡ accepted (written m q)
+unfolding concluded answer
+concluded-none m q e = ap (λ (o : Option Refusal). answer o (written m q)) e
+
+pub refused-answers : (m : Model) (q : Choice) (out out′ : List ℕ) (x : Declared)
+    → firstBreak (runRules m q) ≡ some (refusalNumbers x)
+    → out′ ≡ replicate (lengthNeeded m) 0 ++ drop (lengthNeeded m) out
+    → Answers (concluded m q) m q out out′ (RunVerdict.Refused x)
+refused-answers m q out out′ x e f =
+    let c = concluded-some m q (refusalNumbers x) e in
+    record {
+      says = sym c;
+      leaves = f ∙ sym (ap (λ (a : Answer Written). bufferAfter a m q out) c
+          ∙ cleared m q (refusalNumbers x) out (run-number m q (refusalNumbers x) e));
+    }
+
+pub accepted-answers : (m : Model) (q : Choice) (out out′ owed ends : List ℕ) (k : ℕ) (f : Shown)
+    → Standing m q out owed ends → firstBreak (runRules m q) ≡ none
+    → k ≡ lengthNeeded m → figureNumbers f ≡ figuresIn m q out ends → out′ ≡ put 0 (frontIn m q out ends) out
+    → Answers (concluded m q) m q out out′ (RunVerdict.Accepted (record { length = k; figures = f }))
+unfolding bufferAfter
+accepted-answers m q out out′ owed ends k f stands e ek ef eo =
+    let c = concluded-none m q e in
+    let g = ef ∙ figures-are m q out owed ends stands in
+    let both : _≡_ {A = Written} (record { length = k; figures = figureNumbers f }) (written m q) = λ i. record { length = ek i; figures = g i } in
+    record {
+      says = ap {B = Answer Written} accepted both ∙ sym c;
+      leaves = eo ∙ plan-written m q out owed ends stands ∙ sym (ap (λ (a : Answer Written). bufferAfter a m q out) c);
+    }
+
+-- ---- 41, and the rest of the outcome
+
+pub room-answers : (m : Model) (q : Choice) (l : List ℕ) (x : Declared) → length l < lengthNeeded m
+    → refusalNumbers x ≡ record { number = 41; A = lengthNeeded m; B = 0 }
+    → Answers (outcome m q (length l)) m q l l (RunVerdict.Refused x)
+unfolding outcome
+room-answers m q l x h e =
+    let o : outcome m q (length l) ≡ refused (refusalNumbers x) =
+    ap (λ (b : Bool). cond b (refused (record { number = 41; A = lengthNeeded m; B = 0 })) (concluded′ m q)) (lt-ltb (length l) (lengthNeeded m) h)
+    ∙ ap {B = Answer Written} refused (sym e) in
+    let n : refusalNumbers x .number ≡ 41 = ap (λ (y : Refusal). y .number) e in
+    record {
+      says = sym o;
+      leaves = sym (ap (λ (a : Answer Written). bufferAfter a m q l) o ∙ kept m q (refusalNumbers x) l (omega arith) (omega arith));
+    }
+  where
+    concluded′ : Model → Choice → Answer Written
+    concluded′ m q = answer (firstBreak (runRules m q)) (written m q)
+
+-- with room, what was concluded of the buffer with the grid holds of the buffer as it was lent
+pub outcome-answers : (m : Model) (q : Choice) (l out out′ owed ends : List ℕ) (r : RunVerdict) → lengthNeeded m ≤ length l
+    → Placed m q l out owed ends → Answers (concluded m q) m q out out′ r → Answers (outcome m q (length l)) m q l out′ r
+unfolding outcome concluded
+outcome-answers m q l out out′ owed ends r h p a =
+    let o : outcome m q (length l) ≡ concluded m q = rw (le-ltb (length l) (lengthNeeded m) h) in
+    record {
+      says = a .says ∙ sym o;
+      leaves = a .leaves ∙ same (firstBreak (runRules m q)) refl ∙ sym (ap (λ (a : Answer Written). bufferAfter a m q l) o);
+    }
+  where
+    behind : drop (lengthNeeded m) out ≡ drop (lengthNeeded m) l
+    behind =
+        ap (drop (lengthNeeded m)) (p .written)
+        ∙ drop-put (gridAt m) (lengthNeeded m) (gridBytes m q (m .horizon)) l (placed-fits m q l h) h
+
+    same : (o : Option Refusal) → firstBreak (runRules m q) ≡ o
+        → bufferAfter (concluded m q) m q out ≡ bufferAfter (concluded m q) m q l
+    same (some x) e =
+        let c = concluded-some m q x e in
+        let n = run-number m q x e in
+        ap (λ (a : Answer Written). bufferAfter a m q out) c
+        ∙ cleared m q x out n
+        ∙ ap (λ (b : List ℕ). replicate (lengthNeeded m) 0 ++ b) behind
+        ∙ sym (ap (λ (a : Answer Written). bufferAfter a m q l) c ∙ cleared m q x l n)
+    same none e =
+        let c = concluded-none m q e in
+        ap (λ (a : Answer Written). bufferAfter a m q out) c
+        ∙ accepted-same m q out l behind
+        ∙ sym (ap (λ (a : Answer Written). bufferAfter a m q l) c)
+
+-- ---- the input
+
+-- an answer that is a refusal, and one that is not
+pub answer-refuses : {F : Type 0} (o : Option Refusal) (pass : F) (x : Refusal) → refused x ≡ answer o pass → o ≡ some x
+unfolding answer
+answer-refuses none pass x e = let z : _≡_ {A = ℕ} 0 1 = cc in absurd (omega arith)
+answer-refuses (some y) pass x e = cc
+
+pub answer-accepts : {F : Type 0} (o : Option Refusal) (pass f : F) → accepted f ≡ answer o pass → o ≡ none
+unfolding answer
+answer-accepts none pass f e = refl
+answer-accepts (some y) pass f e = let z : _≡_ {A = ℕ} 0 1 = cc in absurd (omega arith)
+
+refused-input : (s q : List ℕ) (room : ℕ) (x : Refusal) → firstBreak (runChecks s q) ≡ some x → runAnswer s q room ≡ refused x
+unfolding runAnswer
+refused-input s q room x e =
+    ap (λ (o : Option Refusal). elim o [ some y ↦ refused y | none ↦ outcome (model s) (choice q) room ]) e
+
+passed-input : (s q : List ℕ) (room : ℕ) → firstBreak (runChecks s q) ≡ none
+    → runAnswer s q room ≡ outcome (model s) (choice q) room
+unfolding runAnswer
+passed-input s q room e =
+    ap (λ (o : Option Refusal). elim o [ some y ↦ refused y | none ↦ outcome (model s) (choice q) room ]) e
+
+module _ (s q : List ℕ) where
+  pub model-breaks : (x : Refusal) → firstBreak (modelForm s) ≡ some x → firstBreak (runChecks s q) ≡ some x
+  unfolding runChecks
+  model-breaks x e = append-some (modelForm s) (choiceForm (model s) q) x e
+
+  pub model-holds : firstBreak (modelForm s) ≡ none → firstBreak (runChecks s q) ≡ firstBreak (choiceForm (model s) q)
+  unfolding runChecks
+  model-holds e = append-none (modelForm s) (choiceForm (model s) q) e
+
+  -- an input refusal changes no byte
+  pub input-refused : (l : List ℕ) (x : Refusal) → firstBreak (runChecks s q) ≡ some x
+      → (refused x ≡ runAnswer s q (length l)) × (l ≡ runBuffer s q l)
+  unfolding runBuffer
+  input-refused l x e =
+      let a = refused-input s q (length l) x e in
+      let n : x .number < 42 =
+      first-broken-number (λ k. k < 42) (runChecks s q) x (input-numbers s q) (some-iff (runChecks s q) x (runChecks-sound s q) .0 e) in (
+        sym a,
+        sym (ap (λ (y : Answer Written). bufferAfter y (model s) (choice q) l) a
+            ∙ kept (model s) (choice q) x l (omega arith) (omega arith)),
+      )
+
+  -- past the input the outcome counts
+  pub input-passed : (l l′ : List ℕ) (r : RunVerdict) → firstBreak (runChecks s q) ≡ none
+      → Answers (outcome (model s) (choice q) (length l)) (model s) (choice q) l l′ r
+      → (runNumbers r ≡ runAnswer s q (length l)) × (l′ ≡ runBuffer s q l)
+  unfolding runBuffer
+  input-passed l l′ r e a =
+      let o = passed-input s q (length l) e in
+      (a .says ∙ sym o, a .leaves ∙ sym (ap (λ (y : Answer Written). bufferAfter y (model s) (choice q) l) o))
+
+-- a model that meets its form runs
+pub form-runs : (s : List ℕ) → Bytes s → firstBreak (modelForm s) ≡ none → Runs (model s)
+unfolding modelForm limitsRule maskRule model
+form-runs s b e =
+    let h = none-iff (modelForm s) (modelForm-sound s) .0 e in
+    let limits = h .1 .1 .0 0 0 (omega arith) (omega arith) in
+    let masks = h .1 .1 .1 .1 .1 .1 .0 in
+    record {
+      threads = limits .0 .1;
+      few = limits .1 .0 .1;
+      short = limits .1 .1 .1;
+      masked = record {
+        narrow = λ a l. (field-lt s b _ 4, field-lt s b _ 4);
+        temporal = λ a b la lb x. elim (decLt b a) [ yes y ↦ y | no y ↦ absurd (masks a 0 la (omega arith) b lb (omega arith) .0 x) ];
+        by-data = λ a b la lb x. elim (decLt b a) [ yes y ↦ y | no y ↦ absurd (masks a 0 la (omega arith) b lb (omega arith) .1 x) ];
+      };
+    }

@@ -1,0 +1,48 @@
+-- `run::attempt` meets its contract: 41 where there is no room; else what is concluded of the buffer with the grid.
+-- Assumes nothing.
+use native.Mathlib.Omega.{arith}
+use mathlib.Core.Path.{ap, _∙_}
+use borrow.Author.Needs.{needs}
+use Rattle.records.specs.Reads.{refusalIn}
+use Rattle.run.proofs.RunLaws.{room-answers, placed-stands, outcome-answers}
+use Rattle.run.proofs.attempt.Statement.{statement}
+use Rattle.run.proofs.attempt.Tie as tie
+
+needed-requires : tie.Need-needed-requires
+needed-requires c κs = search needs
+
+cast-if1 : tie.Need-cast-if1
+cast-if1 c = search needs
+
+refusal-requires : tie.Need-refusal-requires
+refusal-requires c κs = search needs
+
+returns : tie.Need-returns
+returns c =
+    let e = c .before .before .needed .ensures in
+    room-answers _ _ _ _ (omega (arith, e, c .before .if1 .taken)) (c .refusal .ensures ∙ ap (refusalIn 41) e)
+
+write-grid-requires : tie.Need-write-grid-requires
+write-grid-requires c κs = search needs
+
+conclude-requires : tie.Need-conclude-requires
+conclude-requires c κs = placed-stands _ _ _ _ _ _ (c .before .before .before .before .before .before .before .before .before .before .before .before .before .before .pre) (omega (arith, c .before .before .before .before .before .before .before .before .before .before .needed .ensures, c .before .before .before .before .before .before .before .before .before .if1 .left)) (c .before .before .before .before .before .before .before .write-grid .ensures)
+
+same-length : tie.Need-same-length
+same-length c = search needs
+
+returns-2 : tie.Need-returns-2
+returns-2 c = outcome-answers _ _ _ _ _ _ _ _ (omega (arith, c .before .before .before .before .before .before .before .before .before .before .before .before .before .needed .ensures, c .before .before .before .before .before .before .before .before .before .before .before .before .if1 .left)) (c .before .before .before .before .before .before .before .before .before .before .write-grid .ensures) (c .before .before .conclude .ensures)
+
+pub attempt-spec : {M : Type 1} → statement M
+attempt-spec =
+    tie.close
+    (tie.spec
+    needed-requires
+    cast-if1
+    refusal-requires
+    returns
+    write-grid-requires
+    conclude-requires
+    same-length
+    returns-2)

@@ -1,0 +1,62 @@
+-- `run::finish::first_late` meets its contract: every activity passed keeps its deadline.
+-- Assumes nothing.
+use Prim.Native.Nat.{ℕ, _≤_, _-_}
+use native.Mathlib.Omega.{arith}
+use mathlib.Core.Bool.{Bool, not}
+use mathlib.Core.Path.{sym, subst, ap}
+use lib.Dec.{T}
+use Rattle.run.specs.Front.{onTime}
+use Rattle.run.proofs.PlanLaws.{Clear, clear-none, clear-more, found-here, found-none}
+use Rattle.run.proofs.finish.first_late.Statement.{statement}
+use Rattle.run.proofs.finish.first_late.Tie as tie
+
+abbrev Inv-loop : tie.InvT-loop
+Inv-loop n periods ends a₀ a = (a ≤ n) × Clear (λ a. not (onTime periods ends a)) a
+
+abbrev μ-loop : tie.MeasureT-loop
+μ-loop n periods ends a₀ a = n - a
+
+loop-holds : tie.Need-loop-holds Inv-loop μ-loop
+loop-holds c =
+    let x = c .args in
+    (omega arith, clear-none (λ a. not (onTime (x .periods .now) (x .ends .now) a)))
+
+on-time-requires : tie.Need-on-time-requires Inv-loop μ-loop
+on-time-requires c κs = omega arith
+
+returns : tie.Need-returns Inv-loop μ-loop
+returns c =
+    let x = c .before .before .before .before .args in
+    let l = c .before .before .before .loop in
+    let p : ℕ → Bool = λ a. not (onTime (x .periods .now) (x .ends .now) a) in
+    found-here (x .n) p (l .a) (not (c .before .on-time .result)) (omega arith) (l .inv .1) (ap not (c .before .on-time .ensures)) (subst T (sym (c .if1 .taken)) tt)
+
+add-a : tie.Need-add-a Inv-loop μ-loop
+add-a c = omega arith
+
+loop-less : tie.Need-loop-less Inv-loop μ-loop
+loop-less c = omega arith
+
+loop-again : tie.Need-loop-again Inv-loop μ-loop
+loop-again c =
+    let x = c .before .before .before .before .args in
+    let l = c .before .before .before .loop in
+    let p : ℕ → Bool = λ a. not (onTime (x .periods .now) (x .ends .now) a) in
+    (omega arith, clear-more p (l .a) (not (c .before .on-time .result)) (l .inv .1) (ap not (c .before .on-time .ensures)) (λ t. subst T (c .if1 .left) t))
+
+returns-2 : tie.Need-returns-2 Inv-loop μ-loop
+returns-2 c = found-none _ _ (c .before .loop .a) (omega arith) (omega arith) (c .before .loop .inv .1)
+
+pub first-late-spec : {M : Type 1} → statement M
+first-late-spec =
+    tie.close
+    (tie.spec
+    Inv-loop
+    μ-loop
+    loop-holds
+    on-time-requires
+    returns
+    add-a
+    loop-less
+    loop-again
+    returns-2)

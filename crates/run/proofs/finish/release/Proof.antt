@@ -1,0 +1,21 @@
+-- `run::finish::release` meets its contract: a field of the thread's row.
+-- Assumes nothing.
+use mathlib.Core.Path.{ap}
+use borrow.Author.Needs.{needs}
+use Rattle.records.specs.Rows.{timing}
+use Rattle.records.specs.declared.plan.Timing.{Timing}
+use Rattle.run.proofs.finish.release.Statement.{statement}
+use Rattle.run.proofs.finish.release.Tie as tie
+
+thread-row-requires : tie.Need-thread-row-requires
+thread-row-requires c κs = search needs
+
+cast-result : tie.Need-cast-result
+cast-result c = search needs
+
+returns : tie.Need-returns
+unfolding timing
+returns c = ap (λ (r : Timing). r .release) (c .before .thread-row .ensures)
+
+pub release-spec : {M : Type 1} → statement M
+release-spec = tie.close (tie.spec thread-row-requires cast-result returns)

@@ -1,0 +1,13 @@
+-- `run::machine::covered` meets its contract: the & of a word and the other's complement is the test.
+-- Assumes nothing.
+use borrow.Author.Needs.{needs}
+use Rattle.run.specs.Masks.{covered}
+use Rattle.run.proofs.machine.covered.Statement.{statement}
+use Rattle.run.proofs.machine.covered.Tie as tie
+
+returns : tie.Need-returns
+unfolding covered
+returns c = search needs
+
+pub covered-spec : {M : Type 1} → statement M
+covered-spec = tie.close (tie.spec returns)

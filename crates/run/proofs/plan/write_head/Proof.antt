@@ -1,0 +1,45 @@
+-- `run::plan::write_head` meets its contract: five fields, each behind the one before.
+-- Assumes nothing.
+use borrow.Author.Needs.{needs}
+use Rattle.run.proofs.PlanLaws.{head-says}
+use Rattle.run.proofs.plan.write_head.Statement.{statement}
+use Rattle.run.proofs.plan.write_head.Tie as tie
+
+plan-length-requires : tie.Need-plan-length-requires
+plan-length-requires c κs = search needs
+
+put32-requires : tie.Need-put32-requires
+put32-requires c κs = search needs
+
+put8-requires : tie.Need-put8-requires
+put8-requires c κs = search needs
+
+put8-requires-2 : tie.Need-put8-requires-2
+put8-requires-2 c κs = search needs
+
+put8-requires-3 : tie.Need-put8-requires-3
+put8-requires-3 c κs = search needs
+
+put16-requires : tie.Need-put16-requires
+put16-requires c κs = search needs
+
+same-length : tie.Need-same-length
+same-length c = search needs
+
+returns : tie.Need-returns
+returns c =
+    head-says _ _ _ _ _ _ _ _ _ _ (c .before .before .before .before .before .before .before .before .before .before .before .before .before .before .before .before .before .before .before .before .before .before .pre) (c .before .before .before .before .before .before .before .before .before .before .before .before .before .before .before .before .before .before .before .plan-length .ensures) (c .before .before .before .before .before .before .before .before .before .before .before .before .before .before .before .before .before .before .put32 .ensures)
+    (c .before .before .before .before .before .before .before .before .before .before .before .before .before .before .put8 .ensures) (c .before .before .before .before .before .before .before .before .before .before .put82 .ensures) (c .before .before .before .before .before .before .put83 .ensures) (c .before .before .put16 .ensures)
+
+pub write-head-spec : {M : Type 1} → statement M
+write-head-spec =
+    tie.close
+    (tie.spec
+    plan-length-requires
+    put32-requires
+    put8-requires
+    put8-requires-2
+    put8-requires-3
+    put16-requires
+    same-length
+    returns)

@@ -1,0 +1,25 @@
+-- `run::plan::write_pair` meets its contract: two fields, the second behind the first.
+-- Assumes nothing.
+use borrow.Author.Needs.{needs}
+use Rattle.run.proofs.PlanLaws.{pair-says}
+use Rattle.run.proofs.plan.write_pair.Statement.{statement}
+use Rattle.run.proofs.plan.write_pair.Tie as tie
+
+put16-requires : tie.Need-put16-requires
+put16-requires c κs = search needs
+
+add-put16 : tie.Need-add-put16
+add-put16 c = search needs
+
+put16-requires-2 : tie.Need-put16-requires-2
+put16-requires-2 c κs = search needs
+
+same-length : tie.Need-same-length
+same-length c = search needs
+
+returns : tie.Need-returns
+returns c = pair-says _ _ _ _ _ _ (c .before .before .before .before .before .before .before .before .before .pre) (c .before .before .before .before .before .before .put16 .ensures) (c .before .before .put162 .ensures)
+
+pub write-pair-spec : {M : Type 1} → statement M
+write-pair-spec =
+    tie.close (tie.spec put16-requires add-put16 put16-requires-2 same-length returns)

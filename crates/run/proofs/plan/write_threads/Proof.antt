@@ -1,0 +1,83 @@
+-- `run::plan::write_threads` meets its contract: the rows passed are written.
+-- Assumes nothing.
+use Prim.Native.Nat.{_≤_, _-_}
+use native.Mathlib.Omega.{arith}
+use mathlib.Core.Path.{_≡_, refl, ap, _∙_}
+use lib.ListN.{length}
+use borrow.Author.Needs.{needs}
+use Rattle.schedule.specs.Choice.{choice}
+use Rattle.fields.specs.Put.{put}
+use Rattle.records.specs.Rows.{timing}
+use Rattle.records.specs.declared.plan.Timing.{Timing}
+use Rattle.run.specs.Front.{pairRows}
+use Rattle.run.proofs.PlanLaws.{pairs-start, pairs-next}
+use Rattle.run.proofs.plan.write_threads.Statement.{statement}
+use Rattle.run.proofs.plan.write_threads.Tie as tie
+
+abbrev Inv-loop : tie.InvT-loop
+Inv-loop q n out₀ j₀ out j = (j ≤ n) × (length out ≡ length out₀)
+    × (out ≡ put 9 (pairRows j (choice q .release) (choice q .period)) out₀)
+
+abbrev μ-loop : tie.MeasureT-loop
+μ-loop q n out₀ j₀ out j = n - j
+
+loop-holds : tie.Need-loop-holds Inv-loop μ-loop
+loop-holds c = (omega arith, refl, pairs-start _ _ _ _)
+
+thread-row-requires : tie.Need-thread-row-requires Inv-loop μ-loop
+thread-row-requires c κs = search needs
+
+cast-write-pair : tie.Need-cast-write-pair Inv-loop μ-loop
+cast-write-pair c = omega arith
+
+mul-write-pair : tie.Need-mul-write-pair Inv-loop μ-loop
+mul-write-pair c = omega arith
+
+add-write-pair : tie.Need-add-write-pair Inv-loop μ-loop
+add-write-pair c = omega arith
+
+write-pair-requires : tie.Need-write-pair-requires Inv-loop μ-loop
+write-pair-requires c κs = omega arith
+
+add-j : tie.Need-add-j Inv-loop μ-loop
+add-j c = omega arith
+
+loop-less : tie.Need-loop-less Inv-loop μ-loop
+loop-less c = omega arith
+
+loop-again : tie.Need-loop-again Inv-loop μ-loop
+unfolding timing
+loop-again c =
+    let l = c .before .before .before .before .before .before .loop in
+    let row = c .before .before .before .before .thread-row .ensures in (
+      omega arith,
+      c .before .before .write-pair .kept .0 ∙ l .inv .1,
+      pairs-next _ (l .j) _ _ _ _ _ (l .out) _ (omega arith) (ap (λ (r : Timing). r .release) row) (ap (λ (r : Timing). r .period) row) (l .inv .2) (c .before .before .write-pair .ensures),
+    )
+
+same-length : tie.Need-same-length Inv-loop μ-loop
+same-length c = c .before .loop .inv .1
+
+returns : tie.Need-returns Inv-loop μ-loop
+returns c =
+    let x = c .before .before .before .before .args in
+    let whole : c .before .loop .j ≡ x .n = omega arith in
+    c .before .loop .inv .2 ∙ ap (λ k. put 9 (pairRows k (choice (x .q .now) .release) (choice (x .q .now) .period)) (x .out .now)) whole
+
+pub write-threads-spec : {M : Type 1} → statement M
+write-threads-spec =
+    tie.close
+    (tie.spec
+    Inv-loop
+    μ-loop
+    loop-holds
+    thread-row-requires
+    cast-write-pair
+    mul-write-pair
+    add-write-pair
+    write-pair-requires
+    add-j
+    loop-less
+    loop-again
+    same-length
+    returns)

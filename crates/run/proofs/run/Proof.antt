@@ -1,0 +1,65 @@
+-- `run::run` meets its contract: the readers' refusals are the first breaks of the input rules; past them the outcome counts.
+-- Assumes nothing.
+use native.Mathlib.Omega.{arith}
+use mathlib.Core.Path.{sym, ap, _∙_}
+use borrow.Author.Needs.{needs}
+use Rattle.records.specs.Reads.{modelReadNumbers, choiceReadNumbers}
+use Rattle.run.proofs.RunLaws.{answer-refuses, answer-accepts, model-breaks, model-holds, input-refused, input-passed, form-runs}
+use Rattle.run.proofs.run.Statement.{statement}
+use Rattle.run.proofs.run.Tie as tie
+
+read-requires : tie.Need-read-requires
+read-requires c κs = search needs
+
+enum-known-first : tie.Need-enum-known-first
+enum-known-first c = search needs
+
+returns : tie.Need-returns
+returns c =
+    input-refused _ _ _ _
+    (model-breaks _ _ _ (answer-refuses _ _ _ (sym (ap modelReadNumbers (c .before .first .given .1)) ∙ c .before .before .before .read .ensures)))
+
+enum-told : tie.Need-enum-told
+enum-told c = search needs
+
+read-requires-2 : tie.Need-read-requires-2
+read-requires-2 c κs = search needs
+
+enum-known-second : tie.Need-enum-known-second
+enum-known-second c = search needs
+
+returns-2 : tie.Need-returns-2
+returns-2 c =
+    input-refused _ _ _ _
+    (model-holds _ _ (answer-accepts _ _ _ (sym (ap modelReadNumbers (c .before .before .before .before .enum-told .given .1)) ∙ c .before .before .before .before .before .before .read .ensures)) ∙ sym (c .before .before .before .read2 .ensures) ∙ ap choiceReadNumbers (c .before .second .given .1))
+
+enum-told-2 : tie.Need-enum-told-2
+enum-told-2 c = search needs
+
+attempt-requires : tie.Need-attempt-requires
+attempt-requires c κs = form-runs _ (λ i l. omega (arith, c .before .before .before .before .before .before .before .before .before .shared-slice-known .given i)) (answer-accepts _ _ _ (sym (ap modelReadNumbers (c .before .before .before .before .enum-told .given .1)) ∙ c .before .before .before .before .before .before .read .ensures))
+
+same-length : tie.Need-same-length
+same-length c = search needs
+
+returns-3 : tie.Need-returns-3
+returns-3 c =
+    input-passed _ _ _ _ _
+    (model-holds _ _ (answer-accepts _ _ _ (sym (ap modelReadNumbers (c .before .before .before .before .before .before .before .enum-told .given .1)) ∙ c .before .before .before .before .before .before .before .before .before .read .ensures)) ∙ sym (c .before .before .before .before .before .before .read2 .ensures) ∙ ap choiceReadNumbers (c .before .before .before .before .enum-told2 .given .1))
+    (c .before .before .attempt .ensures)
+
+pub run-spec : {M : Type 1} → statement M
+run-spec =
+    tie.close
+    (tie.spec
+    read-requires
+    enum-known-first
+    returns
+    enum-told
+    read-requires-2
+    enum-known-second
+    returns-2
+    enum-told-2
+    attempt-requires
+    same-length
+    returns-3)

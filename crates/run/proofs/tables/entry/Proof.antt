@@ -1,0 +1,141 @@
+-- `run::tables::entry` meets its contract: the entry of each column, looked up by the activity or by its thread.
+-- Assumes nothing.
+use Prim.Native.Nat.{ℕ}
+use mathlib.Core.Path.{ap, _∙_}
+use borrow.Author.Needs.{needs}
+use Rattle.schedule.specs.Choice.{choice}
+use Rattle.schedule.specs.Model.{model}
+use Rattle.records.specs.Rows.{threadRowOf, activityRowOf, timing}
+use Rattle.records.specs.declared.model.ActivityRow.{ActivityRow}
+use Rattle.records.specs.declared.model.ThreadRow.{ThreadRow}
+use Rattle.records.specs.declared.plan.Timing.{Timing}
+use Rattle.run.proofs.tables.entry.Statement.{statement}
+use Rattle.run.proofs.tables.entry.Tie as tie
+
+activity-row-requires : tie.Need-activity-row-requires
+activity-row-requires c κs = search needs
+
+enum-told : tie.Need-enum-told
+enum-told c = search needs
+
+thread-row-requires : tie.Need-thread-row-requires
+thread-row-requires c κs = search needs
+
+wide-requires : tie.Need-wide-requires
+wide-requires c κs = search needs
+
+enum-told-2 : tie.Need-enum-told-2
+enum-told-2 c = search needs
+
+wide-requires-2 : tie.Need-wide-requires-2
+wide-requires-2 c κs = search needs
+
+enum-told-3 : tie.Need-enum-told-3
+enum-told-3 c = search needs
+
+enum-told-4 : tie.Need-enum-told-4
+enum-told-4 c = search needs
+
+enum-told-5 : tie.Need-enum-told-5
+enum-told-5 c = search needs
+
+duration-requires : tie.Need-duration-requires
+duration-requires c κs = search needs
+
+wide-requires-3 : tie.Need-wide-requires-3
+wide-requires-3 c κs = search needs
+
+enum-told-6 : tie.Need-enum-told-6
+enum-told-6 c = search needs
+
+thread-row-requires-2 : tie.Need-thread-row-requires-2
+thread-row-requires-2 c κs = search needs
+
+wide-requires-4 : tie.Need-wide-requires-4
+wide-requires-4 c κs = search needs
+
+enum-told-7 : tie.Need-enum-told-7
+enum-told-7 c = search needs
+
+thread-row-requires-3 : tie.Need-thread-row-requires-3
+thread-row-requires-3 c κs = search needs
+
+wide-requires-5 : tie.Need-wide-requires-5
+wide-requires-5 c κs = search needs
+
+returns : tie.Need-returns
+unfolding activityRowOf threadRowOf timing
+returns c =
+    let x = c .before .before .before .before .before .before .before .args in
+    let thread : ActivityRow → ℕ = λ r. r .thread .0 in
+    rw (c .before .before .enum-told .given .1)
+    (c .wide .ensures
+    ∙ ap (λ (r : Timing). r .release) (c .before .thread-row .ensures)
+    ∙ ap (λ (r : ActivityRow). choice (x .q .now) .release (thread r)) (c .before .before .before .before .activity-row .ensures))
+
+returns-2 : tie.Need-returns-2
+unfolding activityRowOf threadRowOf timing
+returns-2 c =
+    rw (c .before .enum-told2 .given .1)
+    (c .wide2 .ensures ∙ ap (λ (r : ActivityRow). r .delay) (c .before .before .before .activity-row .ensures))
+
+returns-3 : tie.Need-returns-3
+unfolding activityRowOf threadRowOf timing
+returns-3 c = rw (c .enum-told3 .given .1) (cc)
+
+returns-4 : tie.Need-returns-4
+unfolding activityRowOf threadRowOf timing
+returns-4 c = rw (c .enum-told4 .given .1) (cc)
+
+returns-5 : tie.Need-returns-5
+unfolding activityRowOf threadRowOf timing
+returns-5 c = rw (c .before .before .enum-told5 .given .1) (cc)
+
+returns-6 : tie.Need-returns-6
+unfolding activityRowOf threadRowOf timing
+returns-6 c =
+    let x = c .before .before .before .before .before .before .before .args in
+    let thread : ActivityRow → ℕ = λ r. r .thread .0 in
+    rw (c .before .before .enum-told6 .given .1)
+    (c .wide4 .ensures
+    ∙ ap (λ (r : ThreadRow). r .priority) (c .before .thread-row2 .ensures)
+    ∙ ap (λ (r : ActivityRow). model (x .s .now) .priority (thread r)) (c .before .before .before .before .activity-row .ensures))
+
+returns-7 : tie.Need-returns-7
+unfolding activityRowOf threadRowOf timing
+returns-7 c =
+    let x = c .before .before .before .before .before .before .before .args in
+    let thread : ActivityRow → ℕ = λ r. r .thread .0 in
+    rw (c .before .before .enum-told7 .given .1)
+    (c .wide5 .ensures
+    ∙ ap (λ (r : Timing). r .period) (c .before .thread-row3 .ensures)
+    ∙ ap (λ (r : ActivityRow). choice (x .q .now) .period (thread r)) (c .before .before .before .before .activity-row .ensures))
+
+pub entry-spec : {M : Type 1} → statement M
+entry-spec =
+    tie.close
+    (tie.spec
+    activity-row-requires
+    enum-told
+    thread-row-requires
+    wide-requires
+    enum-told-2
+    wide-requires-2
+    enum-told-3
+    enum-told-4
+    enum-told-5
+    duration-requires
+    wide-requires-3
+    enum-told-6
+    thread-row-requires-2
+    wide-requires-4
+    enum-told-7
+    thread-row-requires-3
+    wide-requires-5
+    returns
+    returns-2
+    returns-3
+    returns-4
+    returns-5
+    returns-6
+    returns-7)

@@ -1,0 +1,36 @@
+-- The machine's words as the bytes of a plan's grid, and what the tables hold when the run stops at H.
+-- Assumes nothing.
+use Prim.Native.Nat.{ℕ, _≤_}
+use mathlib.Core.List.{List}
+use mathlib.Core.Path.{_≡_}
+use Rattle.schedule.specs.Bounded.{rows}
+use Rattle.schedule.specs.Fields.{bytes}
+use Rattle.schedule.specs.Model.{Model}
+use Rattle.schedule.specs.Choice.{Choice}
+use Rattle.schedule.specs.Machine.{machineWord, machineEnd, machineOwes}
+use Rattle.fields.specs.Put.{put}
+use Rattle.run.specs.Front.{gridAt}
+use Rattle.run.specs.Masks.{Holds, Masked}
+
+-- the words of the first k ticks, 4 bytes each
+unfoldable pub gridBytes : Model → Choice → ℕ → List ℕ
+gridBytes m q k = rows k (λ t. bytes 4 (machineWord m (q .release) (q .duration) t))
+
+-- what the run needs of a model: rules 3 and 7
+pub record Runs (m : Model) : Type 0 where
+  pub threads : (1 ≤ m .threads) × (m .threads ≤ 8)
+  pub few : m .activities ≤ 32
+  pub short : m .horizon ≤ 4096
+  pub masked : Masked m
+
+-- The grid is written, and the tables hold what is owed and the ends after the last tick.
+pub record Finished (m : Model) (q : Choice) (grid grid′ owed ends : List ℕ) : Type 0 where
+  pub written : grid′ ≡ put 0 (gridBytes m q (m .horizon)) grid
+  pub owed-ticks : Holds m owed (machineOwes m (q .release) (q .duration))
+  pub end-ticks : Holds m ends (machineEnd m (q .release) (q .duration))
+
+-- The same, in the part of a buffer behind a plan's rows.
+pub record Placed (m : Model) (q : Choice) (out out′ owed ends : List ℕ) : Type 0 where
+  pub written : out′ ≡ put (gridAt m) (gridBytes m q (m .horizon)) out
+  pub owed-ticks : Holds m owed (machineOwes m (q .release) (q .duration))
+  pub end-ticks : Holds m ends (machineEnd m (q .release) (q .duration))

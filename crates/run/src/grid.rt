@@ -1,0 +1,55 @@
+// The grid: the machine's words, tick by tick.
+use crate::machine;
+use crate::tables;
+use crate::tables::Column;
+ghost use Prim.Native.Nat.{_*_, _≤_};
+ghost use lib.ListN.{length};
+ghost use Rattle.schedule.specs.Model.{model};
+ghost use Rattle.schedule.specs.Choice.{choice};
+ghost use Rattle.run.specs.Grid.{Runs, Finished};
+
+// What the machine leaves at H: the ticks still owed and the ends, by activity.
+pub(crate) struct Left {
+    pub(crate) owed: [u32; 32],
+    pub(crate) ends: [u32; 32],
+}
+
+// "At the beginning t = 0 and each activity owes its chosen duration. .. Then t grows by one; stop at H." Each tick's word
+// is written into the grid.
+pub(crate) fn fill_grid(s: &[u8], q: &[u8], grid: &mut [u8]) -> Left
+    requires { ⌜ Runs (model (now s)) × (4 * model (now s) .horizon ≤ length (now grid)) ⌝ }
+    ensures { λ r. ⌜ Finished (model (now (s .entry))) (choice (now (q .entry))) (now (grid .entry)) (now (grid .exit))
+        (r .owed) (r .ends) ⌝ }
+{
+    let sizes = records::model::counts(s);
+    let n = sizes.activities as usize;
+    let cores = sizes.cores as u32;
+    let horizon = sizes.horizon as usize;
+    let releases = tables::table(Column::Release, n, s, q);
+    let delays = tables::table(Column::Delay, n, s, q);
+    let temporal = tables::table(Column::Temporal, n, s, q);
+    let by_data = tables::table(Column::ByData, n, s, q);
+    let priorities = tables::table(Column::Priority, n, s, q);
+    let befores = tables::before_masks(n, &priorities);
+    let mut owed = tables::table(Column::Duration, n, s, q);
+    let mut ends = [0u32; 32];
+    let mut t = 0;
+    while t < horizon {
+        let word = machine::tick(
+            n,
+            cores,
+            &releases,
+            &delays,
+            &temporal,
+            &by_data,
+            &befores,
+            &owed,
+            &ends,
+            t as u32,
+        );
+        machine::step(n, word, t as u32, &mut owed, &mut ends);
+        fields::put32(grid, 4 * t, word);
+        t += 1;
+    }
+    Left { owed, ends }
+}

@@ -1,0 +1,204 @@
+// "The run, as a plain machine": a tick on whole words, from tables by activity.
+ghost use mathlib.Core.Path.{_≡_};
+ghost use mathlib.Core.Bool.{_&&_, cond};
+ghost use Prim.Native.Nat.{_+_, _-_, _≤_, _<_};
+ghost use lib.Dec.{eqb, leb};
+ghost use lib.ListN.{length};
+ghost use Rattle.schedule.specs.Bounded.{wordOf};
+ghost use Rattle.run.specs.Masks.{covered, endedFrom, endedMask, readyFrom, selectedFrom, tickWord, Stepped};
+
+// ---- what is ready
+
+// An end and a delay have passed by tick t.
+fn passed(end: u32, delay: u32, t: u32) -> bool
+    ensures { λ r. ⌜ r ≡ leb (end + delay) t ⌝ }
+{
+    if end <= t { delay <= t - end } else { false }
+}
+
+// Activity b owes nothing, and its end and delay have passed by tick t.
+fn ended_by(owed: &[u32; 32], ends: &[u32; 32], delays: &[u32; 32], t: u32, b: usize) -> bool
+    requires { ⌜ b < 32 ⌝ }
+    ensures { λ r. ⌜ r ≡ endedFrom (now (owed .entry)) (now (ends .entry)) (now (delays .entry)) t b ⌝ }
+{
+    if owed[b] == 0 {
+        passed(ends[b], delays[b], t)
+    } else {
+        false
+    }
+}
+
+// The activities that have ended so.
+fn ended(n: usize, owed: &[u32; 32], ends: &[u32; 32], delays: &[u32; 32], t: u32) -> u32
+    requires { ⌜ n ≤ 32 ⌝ }
+    ensures { λ r. ⌜ r ≡ endedMask n (now (owed .entry)) (now (ends .entry)) (now (delays .entry)) t ⌝ }
+{
+    let mut mask: u32 = 0;
+    let mut b = 0;
+    while b < n {
+        let yes = ended_by(owed, ends, delays, t, b);
+        mask = bits::mark(mask, b as u32, yes);
+        b += 1;
+    }
+    mask
+}
+
+// Every bit of x is a bit of y.
+fn covered(x: u32, y: u32) -> bool
+    ensures { λ r. ⌜ r ≡ covered x y ⌝ }
+{
+    x & !y == 0
+}
+
+// "ready": activity a owes something, its release ≤ t, and its predecessors are among those that have ended, the temporal
+// ones with their delay.
+fn ready_at(
+    owed: &[u32; 32],
+    releases: &[u32; 32],
+    temporal: &[u32; 32],
+    by_data: &[u32; 32],
+    past: u32,
+    over: u32,
+    t: u32,
+    a: usize,
+) -> bool
+    requires { ⌜ a < 32 ⌝ }
+    ensures { λ r. ⌜ r
+        ≡ readyFrom (now (owed .entry)) (now (releases .entry)) (now (temporal .entry)) (now («by_data» .entry))
+        past over t a ⌝ }
+{
+    if owed[a] == 0 {
+        return false;
+    }
+    if releases[a] <= t {
+        if covered(temporal[a], past) {
+            return covered(by_data[a], over);
+        }
+    }
+    false
+}
+
+// The activities that are ready.
+fn ready(
+    n: usize,
+    owed: &[u32; 32],
+    releases: &[u32; 32],
+    temporal: &[u32; 32],
+    by_data: &[u32; 32],
+    past: u32,
+    over: u32,
+    t: u32,
+) -> u32
+    requires { ⌜ n ≤ 32 ⌝ }
+    ensures { λ r. ⌜ r
+        ≡ wordOf n (readyFrom (now (owed .entry)) (now (releases .entry)) (now (temporal .entry))
+        (now («by_data» .entry)) past over t) ⌝ }
+{
+    let mut mask: u32 = 0;
+    let mut a = 0;
+    while a < n {
+        let yes = ready_at(owed, releases, temporal, by_data, past, over, t, a);
+        mask = bits::mark(mask, a as u32, yes);
+        a += 1;
+    }
+    mask
+}
+
+// ---- what is selected
+
+// Activity a is ready, and fewer than c of the ready rank before it.
+fn selected(c: u32, ready: u32, befores: &[u32; 32], a: usize) -> bool
+    requires { ⌜ a < 32 ⌝ }
+    ensures { λ r. ⌜ r ≡ selectedFrom c ready (now (befores .entry)) a ⌝ }
+{
+    if bits::has(ready, a as u32) {
+        bits::ones(ready & befores[a]) < c
+    } else {
+        false
+    }
+}
+
+// "The first c, or all if fewer, are the word's bits."
+fn select(n: usize, c: u32, ready: u32, befores: &[u32; 32]) -> u32
+    requires { ⌜ n ≤ 32 ⌝ }
+    ensures { λ r. ⌜ r ≡ wordOf n (selectedFrom c ready (now (befores .entry))) ⌝ }
+{
+    let mut mask: u32 = 0;
+    let mut a = 0;
+    while a < n {
+        let yes = selected(c, ready, befores, a);
+        mask = bits::mark(mask, a as u32, yes);
+        a += 1;
+    }
+    mask
+}
+
+// The word of tick t. A data predecessor's delay plays no part.
+pub(crate) fn tick(
+    n: usize,
+    c: u32,
+    releases: &[u32; 32],
+    delays: &[u32; 32],
+    temporal: &[u32; 32],
+    by_data: &[u32; 32],
+    befores: &[u32; 32],
+    owed: &[u32; 32],
+    ends: &[u32; 32],
+    t: u32,
+) -> u32
+    requires { ⌜ n ≤ 32 ⌝ }
+    ensures { λ r. ⌜ r
+        ≡ tickWord n c (now (releases .entry)) (now (delays .entry)) (now (temporal .entry)) (now («by_data» .entry))
+        (now (befores .entry)) (now (owed .entry)) (now (ends .entry)) t ⌝ }
+{
+    let none = [0u32; 32];
+    let past = ended(n, owed, ends, delays, t);
+    let over = ended(n, owed, ends, &none, t);
+    select(
+        n,
+        c,
+        ready(n, owed, releases, temporal, by_data, past, over, t),
+        befores,
+    )
+}
+
+// ---- after a tick
+
+// "Each owes one less"
+fn owed_after(owes: u32, active: bool) -> u32
+    ensures { λ r. ⌜ r ≡ owes - cond active 1 0 ⌝ }
+{
+    if active {
+        if 0 < owes { owes - 1 } else { 0 }
+    } else {
+        owes
+    }
+}
+
+// "and one that now owes nothing ends at t + 1"
+fn end_after(owes: u32, end: u32, active: bool, t: u32) -> u32
+    requires { ⌜ t < 65536 ⌝ }
+    ensures { λ r. ⌜ r ≡ cond (active && eqb owes 1) (t + 1) end ⌝ }
+{
+    if active {
+        if owes == 1 { t + 1 } else { end }
+    } else {
+        end
+    }
+}
+
+// "Each owes one less, and one that now owes nothing ends at t + 1": the tables after a tick.
+pub(crate) fn step(n: usize, word: u32, t: u32, owed: &mut [u32; 32], ends: &mut [u32; 32])
+    requires { ⌜ (n ≤ 32) × (t < 65536) × (length (now owed) ≡ 32) × (length (now ends) ≡ 32) ⌝ }
+    ensures { λ _. ⌜ Stepped n word t (now (owed .entry)) (now (ends .entry)) (now (owed .exit)) (now (ends .exit)) ⌝ }
+{
+    let mut a = 0;
+    while a < n {
+        let active = bits::has(word, a as u32);
+        let owes = owed[a];
+        let end = ends[a];
+        owed[a] = owed_after(owes, active);
+        ends[a] = end_after(owes, end, active, t);
+        a += 1;
+    }
+}

@@ -1,0 +1,43 @@
+-- The cut lies within the bytes, and the parts before and behind it are the two records.
+-- Assumes nothing.
+use Prim.Native.Nat.{ℕ, _-_, _≤_}
+use native.Mathlib.Omega.{arith}
+use mathlib.Core.Bool.{Bool, true, false, cond}
+use mathlib.Core.List.{List, []}
+use mathlib.Core.Path.{_≡_, refl, _∙_}
+use lib.Dec.{T, leb, leb→le}
+use lib.ListN.{length, take, drop, length-drop}
+use lib.Seq.{take-all, take-length, drop-length}
+use Rattle.laws.proofs.Tests.{T-and}
+use Rattle.schedule.specs.Fields.{field}
+use Rattle.schedule.specs.Streams.{splits, firstRecord, secondRecord}
+use Rattle.streams.specs.Cut.{cut}
+
+either-le : (b : Bool) (k n : ℕ) → (T b → k ≤ n) → cond b k n ≤ n
+either-le true k n h = h tt
+either-le false k n h = omega arith
+
+pub cut-le : (s : List ℕ) → cut s ≤ length s
+unfolding cut splits
+cut-le s =
+    either-le (splits s) (field s 0 4) (length s) (λ t.
+    leb→le (field s 0 4) (length s) (T-and (leb 4 (length s)) (leb (field s 0 4) (length s)) .0 t .1))
+
+take-either : (b : Bool) (k : ℕ) (s : List ℕ) → take (cond b k (length s)) s ≡ cond b (take k s) s
+take-either true k s = refl
+take-either false k s = take-length s
+
+drop-either : (b : Bool) (k : ℕ) (s : List ℕ) → drop (cond b k (length s)) s ≡ cond b (drop k s) []
+drop-either true k s = refl
+drop-either false k s = drop-length s
+
+pub take-cut : (s : List ℕ) → take (cut s) s ≡ firstRecord s
+unfolding cut firstRecord
+take-cut s = take-either (splits s) (field s 0 4) s
+
+-- a part to the end is given with its length
+pub drop-cut : (s : List ℕ) → take (length s - cut s) (drop (cut s) s) ≡ secondRecord s
+unfolding cut secondRecord
+drop-cut s =
+    take-all (length s - cut s) (drop (cut s) s) (omega (arith, length-drop (cut s) s))
+    ∙ drop-either (splits s) (field s 0 4) s
