@@ -122,7 +122,7 @@ module _ (m : Model) (q : Choice) (n cores horizon : ℕ) (releases delays tempo
           ∙ tick-is m (q .release) releases delays temporal by-data befores (h .tabled) masked
           (stateAt m (q .release) (q .duration) t) owed ends t (h .keeps)
 
-  pub running-end : horizon ≤ t → Finished m q grid₀ grid owed ends
+  pub running-end : horizon ≤ t → Finished m q 0 grid₀ grid owed ends
   unfolding machineOwes machineEnd
   running-end l =
       let last : t ≡ m .horizon = omega (arith, h .so-far, h .horizon-is) in

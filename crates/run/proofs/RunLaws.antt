@@ -38,13 +38,14 @@ use Rattle.laws.proofs.Sums.{total-ext, greatest-ext}
 use Rattle.laws.proofs.MachineLaws.{end-next, word-lt, getD-table}
 use Rattle.laws.proofs.PlanBytes.{length-planBytes}
 use Rattle.laws.proofs.VerdictLaws.{written}
-use Rattle.laws.proofs.FirstBreak.{none-iff, some-iff, append-none, append-some}
+use Rattle.laws.proofs.FirstBreak.{none-iff, some-iff, append-none, append-some, rule-stops, rule-goes-on}
 use Rattle.laws.proofs.Sound.{modelForm-sound, runChecks-sound, runRules-sound}
 use Rattle.laws.proofs.RuleNumbers.{first-broken-number, input-numbers, run-numbers}
 use Rattle.fields.specs.Put.{put}
 use Rattle.fields.proofs.PutLaws.{put-at, put-off, put-ext, put-back, put-front, put-fits, length-put}
-use Rattle.run.specs.Masks.{Holds}
-use Rattle.run.specs.Grid.{gridBytes, Runs, Placed}
+use Rattle.run.specs.declared.tables.Column.{Column}
+use Rattle.run.specs.Tables.{entryOf, Filled}
+use Rattle.run.specs.Grid.{gridBytes, Runs, Finished}
 use Rattle.run.specs.Outcome.{concluded, Stopped, Standing, Answers}
 use Rattle.run.specs.Front.{pairRows, headBytes, frontBytes, frontIn, gridAt, wordIn, startIn, usageIn, figuresIn, onTime}
 use Rattle.run.proofs.GridLaws.{length-grid}
@@ -84,66 +85,58 @@ is-lowest n p i e = subst (Lowest n p) (sym e) (lowest-is n p)
 
 -- ---- rules 42 and 43, from the tables
 
-first-breaks : (r : Rule) (rs : List Rule) (x : Refusal) → break r ≡ some x → firstBreak (r ∷ rs) ≡ some x
-unfolding firstBreak
-first-breaks r rs x e = ap (λ (o : Option Refusal). elim o [ some y ↦ some y | none ↦ firstBreak rs ]) e
-
-first-holds : (r : Rule) (rs : List Rule) → break r ≡ none → firstBreak (r ∷ rs) ≡ firstBreak rs
-unfolding firstBreak
-first-holds r rs e = ap (λ (o : Option Refusal). elim o [ some y ↦ some y | none ↦ firstBreak rs ]) e
-
 none-left : firstBreak [] ≡ none
 unfolding firstBreak
 none-left = refl
 
-module _ (m : Model) (q : Choice) (owed ends : List ℕ) (stopped : Stopped m q owed ends) where
-  owing-is : (i : ℕ) → i ≡ lowest (m .activities) (λ a. not (eqb (getD owed a 0) 0))
+module _ (m : Model) (q : Choice) (owed ends : List ℕ) (stopped : Stopped m q owed ends) (n : ℕ) (en : n ≡ m .activities) where
+  -- rule 43
+  abbrev deadline : Rule
+  deadline = deadlineRule 43 m (q .period) (machineEnd m (q .release) (q .duration))
+
+  owing-is : (i : ℕ) → i ≡ lowest n (λ a. not (eqb (getD owed a 0) 0))
       → Lowest (owedRule m q .rows) (λ a. not (owedRule m q .test a 0)) i
   unfolding owedRule
   owing-is i e =
-      is-lowest (m .activities) _ i (e
+      is-lowest (m .activities) _ i
+      (e
+      ∙ ap (λ (k : ℕ). lowest k (λ a. not (eqb (getD owed a 0) 0))) en
       ∙ lowest-ext (m .activities) _ _ (λ a l. ap (λ (x : ℕ). not (eqb x 0)) (stopped .owed-ticks a l)))
 
-  late-is : (i : ℕ) (periods : List ℕ) → Holds m periods (λ a. q .period (m .thread a))
-      → i ≡ lowest (m .activities) (λ a. not (onTime periods ends a))
-      → Lowest (deadlineRule 43 m (q .period) (machineEnd m (q .release) (q .duration)) .rows)
-      (λ a. not (deadlineRule 43 m (q .period) (machineEnd m (q .release) (q .duration)) .test a 0)) i
+  late-is : (i : ℕ) (periods : List ℕ) → Filled n (entryOf Column.Period m q) periods
+      → i ≡ lowest n (λ a. not (onTime periods ends a)) → Lowest (deadline .rows) (λ a. not (deadline .test a 0)) i
   unfolding deadlineRule onTime
   late-is i periods held e =
-      is-lowest (m .activities) _ i (e
+      is-lowest (m .activities) _ i
+      (e
+      ∙ ap (λ (k : ℕ). lowest k (λ a. not (onTime periods ends a))) en
       ∙ lowest-ext (m .activities) _ _ (λ a l.
-      ap₂ (λ (p x : ℕ). not (not (eqb p 0) ⇒ leb x p)) (held a l) (stopped .end-ticks a l)))
+      ap₂ (λ (p x : ℕ). not (not (eqb p 0) ⇒ leb x p)) (held .filled a (omega arith)) (stopped .end-ticks a l)))
 
-  pub owed-first : (i : ℕ) → i ≡ lowest (m .activities) (λ a. not (eqb (getD owed a 0) 0)) → i < m .activities
+  pub owed-first : (i : ℕ) → i ≡ lowest n (λ a. not (eqb (getD owed a 0) 0)) → i < n
       → firstBreak (runRules m q) ≡ some (record { number = 42; A = i; B = 0 })
   unfolding runRules owedRule
-  owed-first i e l = first-breaks (owedRule m q) _ _ (break-at (owedRule m q) refl i (owing-is i e) l)
+  owed-first i e l = rule-stops (owedRule m q) _ _ (break-at (owedRule m q) refl i (owing-is i e) (omega arith))
 
-  owed-none : (i : ℕ) → i ≡ lowest (m .activities) (λ a. not (eqb (getD owed a 0) 0)) → m .activities ≤ i
-      → break (owedRule m q) ≡ none
+  owed-none : (i : ℕ) → i ≡ lowest n (λ a. not (eqb (getD owed a 0) 0)) → n ≤ i → break (owedRule m q) ≡ none
   unfolding owedRule
-  owed-none i e l = break-none-at (owedRule m q) refl i (owing-is i e) l
+  owed-none i e l = break-none-at (owedRule m q) refl i (owing-is i e) (omega arith)
 
-  pub late-first : (i j : ℕ) (periods : List ℕ) → Holds m periods (λ a. q .period (m .thread a))
-      → i ≡ lowest (m .activities) (λ a. not (eqb (getD owed a 0) 0)) → m .activities ≤ i
-      → j ≡ lowest (m .activities) (λ a. not (onTime periods ends a)) → j < m .activities
-      → firstBreak (runRules m q) ≡ some (record { number = 43; A = j; B = 0 })
-  unfolding runRules deadlineRule
-  late-first i j periods held e l f k =
-      first-holds (owedRule m q) _ (owed-none i e l)
-      ∙ first-breaks (deadlineRule 43 m (q .period) (machineEnd m (q .release) (q .duration))) [] _
-      (break-at (deadlineRule 43 m (q .period) (machineEnd m (q .release) (q .duration))) refl j (late-is j periods held f) k)
+  module _ (i j : ℕ) (periods : List ℕ) (held : Filled n (entryOf Column.Period m q) periods)
+      (ei : i ≡ lowest n (λ a. not (eqb (getD owed a 0) 0))) (li : n ≤ i)
+      (ej : j ≡ lowest n (λ a. not (onTime periods ends a))) where
+    pub late-first : j < n → firstBreak (runRules m q) ≡ some (record { number = 43; A = j; B = 0 })
+    unfolding runRules deadlineRule
+    late-first l =
+        rule-goes-on (owedRule m q) _ (owed-none i ei li)
+        ∙ rule-stops deadline [] _ (break-at deadline refl j (late-is j periods held ej) (omega arith))
 
-  pub none-late : (i j : ℕ) (periods : List ℕ) → Holds m periods (λ a. q .period (m .thread a))
-      → i ≡ lowest (m .activities) (λ a. not (eqb (getD owed a 0) 0)) → m .activities ≤ i
-      → j ≡ lowest (m .activities) (λ a. not (onTime periods ends a)) → m .activities ≤ j
-      → firstBreak (runRules m q) ≡ none
-  unfolding runRules deadlineRule
-  none-late i j periods held e l f k =
-      first-holds (owedRule m q) _ (owed-none i e l)
-      ∙ first-holds (deadlineRule 43 m (q .period) (machineEnd m (q .release) (q .duration))) []
-      (break-none-at (deadlineRule 43 m (q .period) (machineEnd m (q .release) (q .duration))) refl j (late-is j periods held f) k)
-      ∙ none-left
+    pub none-late : n ≤ j → firstBreak (runRules m q) ≡ none
+    unfolding runRules deadlineRule
+    none-late l =
+        rule-goes-on (owedRule m q) _ (owed-none i ei li)
+        ∙ rule-goes-on deadline [] (break-none-at deadline refl j (late-is j periods held ej) (omega arith))
+        ∙ none-left
 
 -- an end is no later than the tick
 end-le : (m : Model) (release duration : ℕ → ℕ) (t a : ℕ) → a < m .activities → endOf (stateAt m release duration t) a ≤ t
@@ -191,7 +184,9 @@ module _ (m : Model) (q : Choice) (out owed ends : List ℕ) (stands : Standing 
   front-plan : frontIn m q out ends ++ gridBytes m q (m .horizon) ≡ planBytes (machinePlan m q)
   unfolding frontIn frontBytes headBytes pairRows gridBytes planBytes machinePlan
   front-plan =
-      ap (λ (b : List ℕ). (headBytes (m .threads) (m .activities) (m .horizon) ++ (pairRows (m .threads) (q .release) (q .period) ++ b)) ++ gridBytes m q (m .horizon))
+      ap (λ (b : List ℕ).
+      (headBytes (m .threads) (m .activities) (m .horizon) ++ (pairRows (m .threads) (q .release) (q .period) ++ b))
+      ++ gridBytes m q (m .horizon))
       (pairs-ext (m .activities) _ _ (machineStart m (q .release) (q .duration)) (machineEnd m (q .release) (q .duration))
       (λ a l. start-in a) (stands .stopped .end-ticks))
       ∙ opened
@@ -258,7 +253,7 @@ placed-fits m q l h = omega (arith, length-grid m q (m .horizon))
 
 -- the grid that was placed stands
 pub placed-stands : (m : Model) (q : Choice) (l out owed ends : List ℕ) → Runs m → lengthNeeded m ≤ length l
-    → Placed m q l out owed ends → Standing m q out owed ends
+    → Finished m q (gridAt m) l out owed ends → Standing m q out owed ends
 placed-stands m q l out owed ends runs room p =
     let e = placed-fits m q l room in
     record {
@@ -348,7 +343,7 @@ room-answers m q l x h e =
 
 -- with room, what was concluded of the buffer with the grid holds of the buffer as it was lent
 pub outcome-answers : (m : Model) (q : Choice) (l out out′ owed ends : List ℕ) (r : RunVerdict) → lengthNeeded m ≤ length l
-    → Placed m q l out owed ends → Answers (concluded m q) m q out out′ r → Answers (outcome m q (length l)) m q l out′ r
+    → Finished m q (gridAt m) l out owed ends → Answers (concluded m q) m q out out′ r → Answers (outcome m q (length l)) m q l out′ r
 unfolding outcome concluded
 outcome-answers m q l out out′ owed ends r h p a =
     let o : outcome m q (length l) ≡ concluded m q = rw (le-ltb (length l) (lengthNeeded m) h) in

@@ -9,7 +9,6 @@ use Rattle.schedule.specs.Model.{Model}
 use Rattle.schedule.specs.Choice.{Choice}
 use Rattle.schedule.specs.Machine.{machineWord, machineEnd, machineOwes}
 use Rattle.fields.specs.Put.{put}
-use Rattle.run.specs.Front.{gridAt}
 use Rattle.run.specs.Masks.{Holds, Masked}
 
 -- the words of the first k ticks, 4 bytes each
@@ -23,14 +22,8 @@ pub record Runs (m : Model) : Type 0 where
   pub short : m .horizon ≤ 4096
   pub masked : Masked m
 
--- The grid is written, and the tables hold what is owed and the ends after the last tick.
-pub record Finished (m : Model) (q : Choice) (grid grid′ owed ends : List ℕ) : Type 0 where
-  pub written : grid′ ≡ put 0 (gridBytes m q (m .horizon)) grid
-  pub owed-ticks : Holds m owed (machineOwes m (q .release) (q .duration))
-  pub end-ticks : Holds m ends (machineEnd m (q .release) (q .duration))
-
--- The same, in the part of a buffer behind a plan's rows.
-pub record Placed (m : Model) (q : Choice) (out out′ owed ends : List ℕ) : Type 0 where
-  pub written : out′ ≡ put (gridAt m) (gridBytes m q (m .horizon)) out
+-- The grid is written at a position, and the tables hold what is owed and the ends after the last tick.
+pub record Finished (m : Model) (q : Choice) (at : ℕ) (out out′ owed ends : List ℕ) : Type 0 where
+  pub written : out′ ≡ put at (gridBytes m q (m .horizon)) out
   pub owed-ticks : Holds m owed (machineOwes m (q .release) (q .duration))
   pub end-ticks : Holds m ends (machineEnd m (q .release) (q .duration))

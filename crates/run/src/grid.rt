@@ -18,7 +18,7 @@ pub(crate) struct Left {
 // is written into the grid.
 pub(crate) fn fill_grid(s: &[u8], q: &[u8], grid: &mut [u8]) -> Left
     requires { ⌜ Runs (model (now s)) × (4 * model (now s) .horizon ≤ length (now grid)) ⌝ }
-    ensures { λ r. ⌜ Finished (model (now (s .entry))) (choice (now (q .entry))) (now (grid .entry)) (now (grid .exit))
+    ensures { λ r. ⌜ Finished (model (now (s .entry))) (choice (now (q .entry))) 0 (now (grid .entry)) (now (grid .exit))
         (r .owed) (r .ends) ⌝ }
 {
     let sizes = records::model::counts(s);

@@ -13,7 +13,7 @@ ghost use Rattle.schedule.specs.Plan.{planLength};
 ghost use Rattle.schedule.specs.Answers.{lengthNeeded};
 ghost use Rattle.fields.specs.Put.{put};
 ghost use Rattle.run.specs.Tables.{Filled};
-ghost use Rattle.run.specs.Grid.{Runs, Placed};
+ghost use Rattle.run.specs.Grid.{Runs, Finished};
 ghost use Rattle.run.specs.Front.{pairRows, headBytes, gridAt, startIn, frontIn};
 ghost use Rattle.run.specs.Outcome.{FrontFits};
 
@@ -45,8 +45,8 @@ pub(crate) fn grid_at(s: &[u8]) -> usize
 // "the grid written into the later part of the lent buffer": the part behind the rows is lent on.
 pub(crate) fn write_grid(s: &[u8], q: &[u8], out: &mut [u8]) -> Left
     requires { ⌜ Runs (model (now s)) × (lengthNeeded (model (now s)) ≤ length (now out)) ⌝ }
-    ensures { λ r. ⌜ Placed (model (now (s .entry))) (choice (now (q .entry))) (now (out .entry)) (now (out .exit))
-        (r .owed) (r .ends) ⌝ }
+    ensures { λ r. ⌜ Finished (model (now (s .entry))) (choice (now (q .entry))) (gridAt (model (now (s .entry))))
+        (now (out .entry)) (now (out .exit)) (r .owed) (r .ends) ⌝ }
 {
     let at = grid_at(s);
     grid::fill_grid(s, q, &mut out[at..])

@@ -26,13 +26,22 @@ write-grid-requires : tie.Need-write-grid-requires
 write-grid-requires c κs = search needs
 
 conclude-requires : tie.Need-conclude-requires
-conclude-requires c κs = placed-stands _ _ _ _ _ _ (c .before .before .before .before .before .before .before .before .before .before .before .before .before .before .pre) (omega (arith, c .before .before .before .before .before .before .before .before .before .before .needed .ensures, c .before .before .before .before .before .before .before .before .before .if1 .left)) (c .before .before .before .before .before .before .before .write-grid .ensures)
+conclude-requires c κs =
+    let c7 = c .before .before .before .before .before .before .before in
+    let c9 = c7 .before .before in
+    let c10 = c9 .before in
+    let c14 = c10 .before .before .before .before in
+    placed-stands _ _ _ _ _ _ (c14 .pre) (omega (arith, c10 .needed .ensures, c9 .if1 .left)) (c7 .write-grid .ensures)
 
 same-length : tie.Need-same-length
 same-length c = search needs
 
 returns-2 : tie.Need-returns-2
-returns-2 c = outcome-answers _ _ _ _ _ _ _ _ (omega (arith, c .before .before .before .before .before .before .before .before .before .before .before .before .before .needed .ensures, c .before .before .before .before .before .before .before .before .before .before .before .before .if1 .left)) (c .before .before .before .before .before .before .before .before .before .before .write-grid .ensures) (c .before .before .conclude .ensures)
+returns-2 c =
+    let c10 = c .before .before .before .before .before .before .before .before .before .before in
+    let c12 = c10 .before .before in
+    let c13 = c12 .before in
+    outcome-answers _ _ _ _ _ _ _ _ (omega (arith, c13 .needed .ensures, c12 .if1 .left)) (c10 .write-grid .ensures) (c .before .before .conclude .ensures)
 
 pub attempt-spec : {M : Type 1} → statement M
 attempt-spec =

@@ -32,9 +32,13 @@ same-length c = search needs
 
 returns : tie.Need-returns
 returns c =
+    let c5 = c .before .before .before .before .before in
+    let c7 = c5 .before .before in
+    let c8 = c7 .before in
+    let c12 = c8 .before .before .before .before in
     refused-answers _ _ _ _ _
-    (sym (c .before .before .before .before .before .before .before .judge .ensures) ∙ ap passNumbers (c .before .before .before .before .before .judged .given .1))
-    (c .before .before .clear .ensures ∙ ap (λ (k : ℕ). replicate k 0 ++ drop k (c .before .before .before .before .before .before .before .before .before .before .before .before .args .out .now)) (c .before .before .before .before .before .before .before .before .needed .ensures))
+    (sym (c7 .judge .ensures) ∙ ap passNumbers (c5 .judged .given .1))
+    (c .before .before .clear .ensures ∙ ap (λ (k : ℕ). replicate k 0 ++ drop k (c12 .args .out .now)) (c8 .needed .ensures))
 
 enum-told : tie.Need-enum-told
 enum-told c = search needs
@@ -45,7 +49,8 @@ figures-requires c κs = search needs
 write-front-requires : tie.Need-write-front-requires
 unfolding lengthNeeded
 write-front-requires c κs =
-    let stands = c .before .before .before .before .before .before .before .before .before .before .pre in
+    let c10 = c .before .before .before .before .before .before .before .before .before .before in
+    let stands = c10 .pre in
     record {
       runs = stands .stopped .runs;
       room = omega (arith, stands .room);
@@ -57,9 +62,13 @@ same-length-2 c = search needs
 
 returns-2 : tie.Need-returns-2
 returns-2 c =
-    accepted-answers _ _ _ _ _ _ _ _ (c .before .before .before .before .before .before .before .before .before .before .before .before .before .pre)
-    (sym (c .before .before .before .before .before .before .before .before .judge .ensures) ∙ ap passNumbers (c .before .before .before .before .before .before .enum-told .given .1))
-    (c .before .before .before .before .before .before .before .before .before .needed .ensures) (c .before .before .before .before .figures .ensures) (c .before .before .write-front .ensures)
+    let c6 = c .before .before .before .before .before .before in
+    let c8 = c6 .before .before in
+    let c9 = c8 .before in
+    let c13 = c9 .before .before .before .before in
+    accepted-answers _ _ _ _ _ _ _ _ (c13 .pre)
+    (sym (c8 .judge .ensures) ∙ ap passNumbers (c6 .enum-told .given .1))
+    (c9 .needed .ensures) (c .before .before .before .before .figures .ensures) (c .before .before .write-front .ensures)
 
 pub conclude-spec : {M : Type 1} → statement M
 conclude-spec =

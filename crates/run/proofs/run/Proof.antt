@@ -30,22 +30,29 @@ enum-known-second c = search needs
 
 returns-2 : tie.Need-returns-2
 returns-2 c =
+    let c6 = c .before .before .before .before .before .before in
     input-refused _ _ _ _
-    (model-holds _ _ (answer-accepts _ _ _ (sym (ap modelReadNumbers (c .before .before .before .before .enum-told .given .1)) ∙ c .before .before .before .before .before .before .read .ensures)) ∙ sym (c .before .before .before .read2 .ensures) ∙ ap choiceReadNumbers (c .before .second .given .1))
+    (model-holds _ _ (answer-accepts _ _ _ (sym (ap modelReadNumbers (c .before .before .before .before .enum-told .given .1)) ∙ c6 .read .ensures)) ∙ sym (c .before .before .before .read2 .ensures) ∙ ap choiceReadNumbers (c .before .second .given .1))
 
 enum-told-2 : tie.Need-enum-told-2
 enum-told-2 c = search needs
 
 attempt-requires : tie.Need-attempt-requires
-attempt-requires c κs = form-runs _ (λ i l. omega (arith, c .before .before .before .before .before .before .before .before .before .shared-slice-known .given i)) (answer-accepts _ _ _ (sym (ap modelReadNumbers (c .before .before .before .before .enum-told .given .1)) ∙ c .before .before .before .before .before .before .read .ensures))
+attempt-requires c κs =
+    let c6 = c .before .before .before .before .before .before in
+    let c9 = c6 .before .before .before in
+    form-runs _ (λ i l. omega (arith, c9 .shared-slice-known .given i)) (answer-accepts _ _ _ (sym (ap modelReadNumbers (c .before .before .before .before .enum-told .given .1)) ∙ c6 .read .ensures))
 
 same-length : tie.Need-same-length
 same-length c = search needs
 
 returns-3 : tie.Need-returns-3
 returns-3 c =
+    let c6 = c .before .before .before .before .before .before in
+    let c7 = c6 .before in
+    let c9 = c7 .before .before in
     input-passed _ _ _ _ _
-    (model-holds _ _ (answer-accepts _ _ _ (sym (ap modelReadNumbers (c .before .before .before .before .before .before .before .enum-told .given .1)) ∙ c .before .before .before .before .before .before .before .before .before .read .ensures)) ∙ sym (c .before .before .before .before .before .before .read2 .ensures) ∙ ap choiceReadNumbers (c .before .before .before .before .enum-told2 .given .1))
+    (model-holds _ _ (answer-accepts _ _ _ (sym (ap modelReadNumbers (c7 .enum-told .given .1)) ∙ c9 .read .ensures)) ∙ sym (c6 .read2 .ensures) ∙ ap choiceReadNumbers (c .before .before .before .before .enum-told2 .given .1))
     (c .before .before .attempt .ensures)
 
 pub run-spec : {M : Type 1} → statement M

@@ -29,7 +29,8 @@ cast-usage c = search needs
 
 usage-requires : tie.Need-usage-requires
 usage-requires c κs =
-    let runs = c .before .before .before .before .before .before .before .pre in
+    let c7 = c .before .before .before .before .before .before .before in
+    let runs = c7 .pre in
     (omega (arith, c .before .grid-at .ensures, runs .threads .1, runs .few), omega (arith, c .struct-known2 .given))
 
 cast-t10 : tie.Need-cast-t10
@@ -43,11 +44,17 @@ mul-t12 c = record { fits = capacity-lt _ _ (omega (arith, c .before .struct-kno
 
 greatest-end-requires : tie.Need-greatest-end-requires
 unfolding sizesOf
-greatest-end-requires c κs = omega (arith, ap (λ (r : Sizes). r .activities) (c .before .before .before .before .before .before .counts .ensures), c .before .before .before .before .before .before .before .before .before .before .pre .few)
+greatest-end-requires c κs =
+    let c6 = c .before .before .before .before .before .before in
+    let c10 = c6 .before .before .before .before in
+    omega (arith, ap (λ (r : Sizes). r .activities) (c6 .counts .ensures), c10 .pre .few)
 
 least-release-requires : tie.Need-least-release-requires
 unfolding sizesOf
-least-release-requires c κs = omega (arith, ap (λ (r : Sizes). r .threads) (c .before .before .before .before .before .before .before .counts .ensures), c .before .before .before .before .before .before .before .before .before .before .before .pre .threads .0)
+least-release-requires c κs =
+    let c7 = c .before .before .before .before .before .before .before in
+    let c11 = c7 .before .before .before .before in
+    omega (arith, ap (λ (r : Sizes). r .threads) (c7 .counts .ensures), c11 .pre .threads .0)
 
 less-requires : tie.Need-less-requires
 less-requires c κs = search needs
@@ -55,10 +62,14 @@ less-requires c κs = search needs
 returns : tie.Need-returns
 unfolding sizesOf
 returns c =
-    let x = c .before .before .before .before .before .before .before .before .before .before .before .before .before .args in
-    let e = c .before .before .before .before .before .before .before .before .before .counts .ensures in
+    let c5 = c .before .before .before .before .before in
+    let c7 = c5 .before .before in
+    let c9 = c7 .before .before in
+    let c13 = c9 .before .before .before .before in
+    let x = c13 .args in
+    let e = c9 .counts .ensures in
     figures-says (model (x .s .now)) (choice (x .q .now)) (x .out .now) (x .ends .now) _ _ _
-    (c .before .before .before .before .before .usage .ensures ∙ ap₂ (λ (k : ℕ) (r : Sizes). usageIn (x .out .now) k (r .horizon)) (c .before .before .before .before .before .before .before .grid-at .ensures) e)
+    (c5 .usage .ensures ∙ ap₂ (λ (k : ℕ) (r : Sizes). usageIn (x .out .now) k (r .horizon)) (c7 .grid-at .ensures) e)
     (ap (λ (r : Sizes). r .cores * r .horizon) e)
     (c .less .ensures
     ∙ ap₂ _-_ (c .before .before .greatest-end .ensures) (c .before .least-release .ensures)

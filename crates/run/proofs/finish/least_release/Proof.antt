@@ -36,8 +36,9 @@ loop-less c = omega arith
 
 loop-again : tie.Need-loop-again Inv-loop μ-loop
 loop-again c =
+    let c6 = c .before .before .before .before .before .before in
     let l = c .before .before .before .loop in
-    let f : ℕ → ℕ = choice (c .before .before .before .before .before .before .args .q .now) .release in (
+    let f : ℕ → ℕ = choice (c6 .args .q .now) .release in (
       omega arith,
       omega arith,
       c .smaller .ensures

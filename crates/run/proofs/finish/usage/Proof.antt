@@ -42,8 +42,9 @@ loop-less c = omega arith
 
 loop-again : tie.Need-loop-again Inv-loop μ-loop
 loop-again c =
+    let c5 = c .before .before .before .before .before in
     let l = c .before .before .before .loop in
-    let x = c .before .before .before .before .before .args in (
+    let x = c5 .args in (
       omega arith,
       omega (arith, c .ones .ensures, ones-le (c .before .be32 .result)),
       ap₂ _+_ (l .inv .2) (c .ones .ensures ∙ ap ones (c .before .be32 .ensures)) ∙ usage-next (x .out .now) (x .at) (l .t),

@@ -35,76 +35,121 @@ cast-horizon c = search needs
 
 table-requires : tie.Need-table-requires Inv-loop μ-loop
 unfolding sizesOf
-table-requires c κs = rw (ap (λ (r : Sizes). r .activities) (c .before .before .before .counts .ensures)) (c .before .before .before .before .before .before .before .pre .0 .few)
+table-requires c κs =
+    let c7 = c .before .before .before .before .before .before .before in
+    rw (ap (λ (r : Sizes). r .activities) (c .before .before .before .counts .ensures)) (c7 .pre .0 .few)
 
 table-requires-2 : tie.Need-table-requires-2 Inv-loop μ-loop
 unfolding sizesOf
-table-requires-2 c κs = rw (ap (λ (r : Sizes). r .activities) (c .before .before .before .before .counts .ensures)) (c .before .before .before .before .before .before .before .before .pre .0 .few)
+table-requires-2 c κs =
+    let c8 = c .before .before .before .before .before .before .before .before in
+    rw (ap (λ (r : Sizes). r .activities) (c .before .before .before .before .counts .ensures)) (c8 .pre .0 .few)
 
 table-requires-3 : tie.Need-table-requires-3 Inv-loop μ-loop
 unfolding sizesOf
-table-requires-3 c κs = rw (ap (λ (r : Sizes). r .activities) (c .before .before .before .before .before .counts .ensures)) (c .before .before .before .before .before .before .before .before .before .pre .0 .few)
+table-requires-3 c κs =
+    let c5 = c .before .before .before .before .before in
+    let c9 = c5 .before .before .before .before in
+    rw (ap (λ (r : Sizes). r .activities) (c5 .counts .ensures)) (c9 .pre .0 .few)
 
 table-requires-4 : tie.Need-table-requires-4 Inv-loop μ-loop
 unfolding sizesOf
-table-requires-4 c κs = rw (ap (λ (r : Sizes). r .activities) (c .before .before .before .before .before .before .counts .ensures)) (c .before .before .before .before .before .before .before .before .before .before .pre .0 .few)
+table-requires-4 c κs =
+    let c6 = c .before .before .before .before .before .before in
+    let c10 = c6 .before .before .before .before in
+    rw (ap (λ (r : Sizes). r .activities) (c6 .counts .ensures)) (c10 .pre .0 .few)
 
 table-requires-5 : tie.Need-table-requires-5 Inv-loop μ-loop
 unfolding sizesOf
-table-requires-5 c κs = rw (ap (λ (r : Sizes). r .activities) (c .before .before .before .before .before .before .before .counts .ensures)) (c .before .before .before .before .before .before .before .before .before .before .before .pre .0 .few)
+table-requires-5 c κs =
+    let c7 = c .before .before .before .before .before .before .before in
+    let c11 = c7 .before .before .before .before in
+    rw (ap (λ (r : Sizes). r .activities) (c7 .counts .ensures)) (c11 .pre .0 .few)
 
 before-masks-requires : tie.Need-before-masks-requires Inv-loop μ-loop
 unfolding sizesOf
-before-masks-requires c κs = rw (ap (λ (r : Sizes). r .activities) (c .before .before .before .before .before .before .before .before .before .counts .ensures)) (c .before .before .before .before .before .before .before .before .before .before .before .before .before .pre .0 .few)
+before-masks-requires c κs =
+    let c9 = c .before .before .before .before .before .before .before .before .before in
+    let c13 = c9 .before .before .before .before in
+    rw (ap (λ (r : Sizes). r .activities) (c9 .counts .ensures)) (c13 .pre .0 .few)
 
 table-requires-6 : tie.Need-table-requires-6 Inv-loop μ-loop
 unfolding sizesOf
-table-requires-6 c κs = rw (ap (λ (r : Sizes). r .activities) (c .before .before .before .before .before .before .before .before .before .before .counts .ensures)) (c .before .before .before .before .before .before .before .before .before .before .before .before .before .before .pre .0 .few)
+table-requires-6 c κs =
+    let c10 = c .before .before .before .before .before .before .before .before .before .before in
+    let c14 = c10 .before .before .before .before in
+    rw (ap (λ (r : Sizes). r .activities) (c10 .counts .ensures)) (c14 .pre .0 .few)
 
 loop-holds : tie.Need-loop-holds Inv-loop μ-loop
 unfolding sizesOf
 loop-holds c =
-    running-start _ _ _ _ _ _ _ _ _ _ _ _ _ _ (ap (λ (r : Sizes). r .activities) (c .before .before .before .before .before .before .before .before .before .before .before .counts .ensures))
-    (ap (λ (r : Sizes). r .cores) (c .before .before .before .before .before .before .before .before .before .before .before .counts .ensures))
-    (ap (λ (r : Sizes). r .horizon) (c .before .before .before .before .before .before .before .before .before .before .before .counts .ensures))
-    (rw (ap (λ (r : Sizes). r .activities) (c .before .before .before .before .before .before .before .before .before .before .before .counts .ensures)) (c .before .before .before .before .before .before .before .before .before .before .before .before .before .before .before .pre .0 .few))
-    (omega (arith, c .before .before .before .before .before .before .before .before .struct-known3 .given))
-    (rw (ap (λ (r : Sizes). r .horizon) (c .before .before .before .before .before .before .before .before .before .before .before .counts .ensures)) (c .before .before .before .before .before .before .before .before .before .before .before .before .before .before .before .pre .1))
-    (c .before .before .before .before .before .before .before .table .ensures) (c .before .before .before .before .before .before .table2 .ensures) (c .before .before .before .before .before .table3 .ensures) (c .before .before .before .before .table4 .ensures) (c .before .before .before .table5 .ensures)
+    let c5 = c .before .before .before .before .before in
+    let c6 = c5 .before in
+    let c7 = c6 .before in
+    let c8 = c7 .before in
+    let c11 = c8 .before .before .before in
+    let c15 = c11 .before .before .before .before in
+    running-start _ _ _ _ _ _ _ _ _ _ _ _ _ _ (ap (λ (r : Sizes). r .activities) (c11 .counts .ensures))
+    (ap (λ (r : Sizes). r .cores) (c11 .counts .ensures))
+    (ap (λ (r : Sizes). r .horizon) (c11 .counts .ensures))
+    (rw (ap (λ (r : Sizes). r .activities) (c11 .counts .ensures)) (c15 .pre .0 .few))
+    (omega (arith, c8 .struct-known3 .given))
+    (rw (ap (λ (r : Sizes). r .horizon) (c11 .counts .ensures)) (c15 .pre .1))
+    (c7 .table .ensures) (c6 .table2 .ensures) (c5 .table3 .ensures) (c .before .before .before .before .table4 .ensures) (c .before .before .before .table5 .ensures)
     (c .before .before-masks .ensures) (c .table6 .ensures)
-    (record { sized = refl; filled = λ a l. getD-replicate 32 a 0 0 (omega (arith, ap (λ (r : Sizes). r .activities) (c .before .before .before .before .before .before .before .before .before .before .before .counts .ensures), c .before .before .before .before .before .before .before .before .before .before .before .before .before .before .before .pre .0 .few)) })
+    (record { sized = refl; filled = λ a l. getD-replicate 32 a 0 0 (omega (arith, ap (λ (r : Sizes). r .activities) (c11 .counts .ensures), c15 .pre .0 .few)) })
 
 cast-tick : tie.Need-cast-tick Inv-loop μ-loop
-cast-tick c = omega (arith, c .before .before .before .before .before .before .before .before .loop .inv .narrow, c .before .before .before .before .before .before .before .loop-test .taken)
+cast-tick c =
+    let c7 = c .before .before .before .before .before .before .before in
+    let c8 = c7 .before in
+    omega (arith, c8 .loop .inv .narrow, c7 .loop-test .taken)
 
 tick-requires : tie.Need-tick-requires Inv-loop μ-loop
 tick-requires c κs = search needs
 
 cast-step : tie.Need-cast-step Inv-loop μ-loop
-cast-step c = omega (arith, c .before .before .before .before .before .before .before .before .before .loop .inv .narrow, c .before .before .before .before .before .before .before .before .loop-test .taken)
+cast-step c =
+    let c8 = c .before .before .before .before .before .before .before .before in
+    let c9 = c8 .before in
+    omega (arith, c9 .loop .inv .narrow, c8 .loop-test .taken)
 
 step-requires : tie.Need-step-requires Inv-loop μ-loop
 step-requires c κs =
-    let l = c .before .before .before .before .before .before .before .before .before .before .before .loop in
-    (omega arith, omega (arith, l .inv .narrow, c .before .before .before .before .before .before .before .before .before .before .loop-test .taken), l .inv .sized .0, l .inv .sized .1)
+    let c10 = c .before .before .before .before .before .before .before .before .before .before in
+    let c11 = c10 .before in
+    let l = c11 .loop in
+    (omega arith, omega (arith, l .inv .narrow, c10 .loop-test .taken), l .inv .sized .0, l .inv .sized .1)
 
 mul-put32 : tie.Need-mul-put32 Inv-loop μ-loop
-mul-put32 c = omega (arith, c .before .before .before .before .before .before .before .before .before .before .before .before .before .loop .inv .narrow, c .before .before .before .before .before .before .before .before .before .before .before .before .loop-test .taken)
+mul-put32 c =
+    let c12 = c .before .before .before .before .before .before .before .before .before .before .before .before in
+    let c13 = c12 .before in
+    omega (arith, c13 .loop .inv .narrow, c12 .loop-test .taken)
 
 put32-requires : tie.Need-put32-requires Inv-loop μ-loop
 put32-requires c κs = search needs
 
 add-t : tie.Need-add-t Inv-loop μ-loop
-add-t c = omega (arith, c .before .before .before .before .before .before .before .before .before .before .before .before .before .before .before .before .loop .inv .narrow, c .before .before .before .before .before .before .before .before .before .before .before .before .before .before .before .loop-test .taken)
+add-t c =
+    let c15 = c .before .before .before .before .before .before .before .before .before .before .before .before .before .before .before in
+    let c16 = c15 .before in
+    omega (arith, c16 .loop .inv .narrow, c15 .loop-test .taken)
 
 loop-less : tie.Need-loop-less Inv-loop μ-loop
-loop-less c = omega (arith, c .before .before .before .before .before .before .before .before .before .before .before .before .before .before .before .loop-test .taken)
+loop-less c =
+    let c15 = c .before .before .before .before .before .before .before .before .before .before .before .before .before .before .before in
+    omega (arith, c15 .loop-test .taken)
 
 loop-again : tie.Need-loop-again Inv-loop μ-loop
 loop-again c =
-    let l = c .before .before .before .before .before .before .before .before .before .before .before .before .before .before .before .before .loop in
-    running-next _ _ _ _ _ _ _ _ _ _ _ (l .grid) (l .owed) (l .ends) (l .t) (l .inv) (c .before .before .before .before .before .before .before .tick .result) _ _ _ (c .before .before .before .before .before .before .before .before .before .before .before .before .before .before .before .before .before .before .before .before .before .before .before .before .before .before .before .before .before .before .before .before .pre .0 .masked) (c .before .before .before .before .before .before .before .before .before .before .before .before .before .before .before .loop-test .taken)
-    (c .before .before .before .before .before .before .before .tick .ensures) (c .before .before .before .before .step .ensures) (c .before .before .put32 .ensures)
+    let c7 = c .before .before .before .before .before .before .before in
+    let c15 = c7 .before .before .before .before .before .before .before .before in
+    let c16 = c15 .before in
+    let c32 = c16 .before .before .before .before .before .before .before .before .before .before .before .before .before .before .before .before in
+    let l = c16 .loop in
+    running-next _ _ _ _ _ _ _ _ _ _ _ (l .grid) (l .owed) (l .ends) (l .t) (l .inv) (c7 .tick .result) _ _ _ (c32 .pre .0 .masked) (c15 .loop-test .taken)
+    (c7 .tick .ensures) (c .before .before .before .before .step .ensures) (c .before .before .put32 .ensures)
 
 same-length : tie.Need-same-length Inv-loop μ-loop
 same-length c = running-length _ _ _ _ _ _ _ _ _ _ _ _ _ _ _ (c .before .loop .inv)

@@ -43,11 +43,16 @@ covered-requires-2 c κs = search needs
 
 returns-2 : tie.Need-returns-2
 unfolding readyFrom
-returns-2 c = simp (pos-ltb _ (c .before .before .before .before .before .before .before .if1 .left), le-leb _ _ (c .before .before .before .before .before .if2 .taken), ← c .before .before .before .covered .ensures, c .before .before .if3 .taken, ← c .covered2 .ensures)
+returns-2 c =
+    let c5 = c .before .before .before .before .before in
+    let c7 = c5 .before .before in
+    simp (pos-ltb _ (c7 .if1 .left), le-leb _ _ (c5 .if2 .taken), ← c .before .before .before .covered .ensures, c .before .before .if3 .taken, ← c .covered2 .ensures)
 
 returns-3 : tie.Need-returns-3
 unfolding readyFrom
-returns-3 c = simp (pos-ltb _ (c .before .before .before .before .before .if1 .left), le-leb _ _ (c .before .before .before .if2 .taken), ← c .before .covered .ensures, c .if3 .left)
+returns-3 c =
+    let c5 = c .before .before .before .before .before in
+    simp (pos-ltb _ (c5 .if1 .left), le-leb _ _ (c .before .before .before .if2 .taken), ← c .before .covered .ensures, c .if3 .left)
 
 returns-4 : tie.Need-returns-4
 unfolding readyFrom

@@ -61,7 +61,8 @@ loop-less c = search needs
 
 loop-again : tie.Need-loop-again Inv-loop μ-loop
 loop-again c =
-    let l = c .before .before .before .before .before .before .loop in (
+    let c6 = c .before .before .before .before .before .before in
+    let l = c6 .loop in (
       omega arith,
       stepping-next _ _ (l .a) (c .before .owed-after .result) (c .end-after .result) (c .before .before .before .before .has .result) _ _ (l .owed) (l .ends) (omega arith)
           (l .inv .1) (c .before .before .before .before .has .ensures) (c .before .owed-after .ensures) (c .end-after .ensures),

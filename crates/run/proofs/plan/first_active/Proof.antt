@@ -41,7 +41,8 @@ cast-result c = omega arith
 returns : tie.Need-returns Inv-loop μ-loop
 unfolding startIn
 returns c =
-    let x = c .before .before .before .before .before .before .args in
+    let c6 = c .before .before .before .before .before .before in
+    let x = c6 .args in
     let l = c .before .before .before .before .loop in
     let p : ℕ → Bool = λ t. bit (wordIn (x .out .now) (x .at) t) (x .a) in
     let e : c .before .has .result ≡ p (l .t) = c .before .has .ensures ∙ ap (λ (w : ℕ). bit w (x .a)) (c .before .before .be32 .ensures) in
@@ -55,7 +56,8 @@ loop-less c = omega arith
 
 loop-again : tie.Need-loop-again Inv-loop μ-loop
 loop-again c =
-    let x = c .before .before .before .before .before .before .args in
+    let c6 = c .before .before .before .before .before .before in
+    let x = c6 .args in
     let l = c .before .before .before .before .loop in
     let p : ℕ → Bool = λ t. bit (wordIn (x .out .now) (x .at) t) (x .a) in
     let e : c .before .has .result ≡ p (l .t) = c .before .has .ensures ∙ ap (λ (w : ℕ). bit w (x .a)) (c .before .before .be32 .ensures) in

@@ -33,7 +33,9 @@ element-copy-out-write-pair : tie.Need-element-copy-out-write-pair Inv-loop μ-l
 element-copy-out-write-pair c = omega arith
 
 cast-write-pair : tie.Need-cast-write-pair Inv-loop μ-loop
-cast-write-pair c = omega (arith, c .before .before .before .before .before .pre .2 (c .before .before .before .loop .a) (omega arith) .0)
+cast-write-pair c =
+    let c5 = c .before .before .before .before .before in
+    omega (arith, c5 .pre .2 (c .before .before .before .loop .a) (omega arith) .0)
 
 mul-write-pair-3 : tie.Need-mul-write-pair-3 Inv-loop μ-loop
 mul-write-pair-3 c = omega arith
@@ -42,7 +44,9 @@ element-copy-out-write-pair-2 : tie.Need-element-copy-out-write-pair-2 Inv-loop 
 element-copy-out-write-pair-2 c = omega arith
 
 cast-write-pair-2 : tie.Need-cast-write-pair-2 Inv-loop μ-loop
-cast-write-pair-2 c = omega (arith, c .before .before .before .before .before .before .pre .2 (c .before .before .before .before .loop .a) (omega arith) .1)
+cast-write-pair-2 c =
+    let c6 = c .before .before .before .before .before .before in
+    omega (arith, c6 .pre .2 (c .before .before .before .before .loop .a) (omega arith) .1)
 
 write-pair-requires : tie.Need-write-pair-requires Inv-loop μ-loop
 write-pair-requires c κs = omega arith
@@ -55,7 +59,8 @@ loop-less c = omega arith
 
 loop-again : tie.Need-loop-again Inv-loop μ-loop
 loop-again c =
-    let l = c .before .before .before .before .before .before .before .loop in (
+    let c7 = c .before .before .before .before .before .before .before in
+    let l = c7 .loop in (
       omega arith,
       c .before .before .write-pair .kept .0 ∙ l .inv .1,
       pairs-next _ (l .a) _ _ _ _ _ (l .out) _ (omega arith) refl refl (l .inv .2) (c .before .before .write-pair .ensures),

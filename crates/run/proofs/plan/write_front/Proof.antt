@@ -25,7 +25,8 @@ cast-starts c = search needs
 starts-requires : tie.Need-starts-requires
 unfolding sizesOf
 starts-requires c κs =
-    let runs = c .before .before .before .before .before .before .before .before .pre .runs in (
+    let c8 = c .before .before .before .before .before .before .before .before in
+    let runs = c8 .pre .runs in (
       omega (arith, c .before .grid-at .ensures, runs .threads .1, runs .few),
       omega (arith, c .struct-known2 .given),
       omega (arith, ap (λ (r : Sizes). r .activities) (c .before .before .before .before .counts .ensures), runs .few),
@@ -36,7 +37,10 @@ write-head-requires c κs = search needs
 
 write-threads-requires : tie.Need-write-threads-requires
 unfolding sizesOf
-write-threads-requires c κs = omega (arith, ap (λ (r : Sizes). r .threads) (c .before .before .before .before .before .before .before .before .before .before .counts .ensures), ap (λ (r : Sizes). r .activities) (c .before .before .before .before .before .before .before .before .before .before .counts .ensures), c .before .before .before .before .before .before .before .before .before .before .before .before .before .before .pre .room, c .before .before .before .write-head .kept .0)
+write-threads-requires c κs =
+    let c10 = c .before .before .before .before .before .before .before .before .before .before in
+    let c14 = c10 .before .before .before .before in
+    omega (arith, ap (λ (r : Sizes). r .threads) (c10 .counts .ensures), ap (λ (r : Sizes). r .activities) (c10 .counts .ensures), c14 .pre .room, c .before .before .before .write-head .kept .0)
 
 cast-write-activities : tie.Need-cast-write-activities
 cast-write-activities c = search needs
@@ -50,14 +54,21 @@ add-write-activities c = search needs
 write-activities-requires : tie.Need-write-activities-requires
 unfolding sizesOf
 write-activities-requires c κs =
-    let r = c .before .before .before .before .before .before .before .before .before .before .before .before .before .before .before .before .counts .result in
-    let en = ap (λ (r : Sizes). r .threads) (c .before .before .before .before .before .before .before .before .before .before .before .before .before .before .before .before .counts .ensures) in
-    let em = ap (λ (r : Sizes). r .activities) (c .before .before .before .before .before .before .before .before .before .before .before .before .before .before .before .before .counts .ensures) in (
-      omega (arith, em, c .before .before .before .before .before .before .before .before .before .before .before .before .before .before .before .before .before .before .before .before .pre .runs .few),
-      omega (arith, en, em, c .before .before .before .before .before .before .before .before .before .before .before .before .before .before .before .before .before .before .before .before .pre .room, c .before .before .before .before .before .before .before .before .before .write-head .kept .0, c .before .before .before .before .before .write-threads .kept .1 .1 .0),
+    let c5 = c .before .before .before .before .before in
+    let c9 = c5 .before .before .before .before in
+    let c11 = c9 .before .before in
+    let c12 = c11 .before in
+    let c13 = c12 .before in
+    let c16 = c13 .before .before .before in
+    let c20 = c16 .before .before .before .before in
+    let r = c16 .counts .result in
+    let en = ap (λ (r : Sizes). r .threads) (c16 .counts .ensures) in
+    let em = ap (λ (r : Sizes). r .activities) (c16 .counts .ensures) in (
+      omega (arith, em, c20 .pre .runs .few),
+      omega (arith, en, em, c20 .pre .room, c9 .write-head .kept .0, c5 .write-threads .kept .1 .1 .0),
       λ a l. (
-        omega (arith, c .before .before .before .before .before .before .before .before .before .before .before .starts .ensures .filled a l, start-le (c .before .before .before .before .before .before .before .before .before .before .before .before .before .before .before .before .before .before .before .before .args .out .now) (c .before .before .before .before .before .before .before .before .before .before .before .before .before .grid-at .result) (r .horizon) a, c .before .before .before .before .before .before .before .before .before .before .before .before .struct-known2 .given),
-        c .before .before .before .before .before .before .before .before .before .before .before .before .before .before .before .before .before .before .before .before .pre .small a (omega (arith, em)),
+        omega (arith, c11 .starts .ensures .filled a l, start-le (c20 .args .out .now) (c13 .grid-at .result) (r .horizon) a, c12 .struct-known2 .given),
+        c20 .pre .small a (omega (arith, em)),
       ),
     )
 
@@ -67,10 +78,16 @@ same-length c = search needs
 returns : tie.Need-returns
 unfolding sizesOf frontIn
 returns c =
-    let x = c .before .before .before .before .before .before .before .before .before .before .before .before .before .before .before .before .before .before .before .before .before .before .before .args in
-    let whole = front-says _ _ _ _ _ _ _ _ (x .out .now) _ _ _ (omega (arith, ap (λ (r : Sizes). r .threads) (c .before .before .before .before .before .before .before .before .before .before .before .before .before .before .before .before .before .before .before .counts .ensures), ap (λ (r : Sizes). r .activities) (c .before .before .before .before .before .before .before .before .before .before .before .before .before .before .before .before .before .before .before .counts .ensures), c .before .before .before .before .before .before .before .before .before .before .before .before .before .before .before .before .before .before .before .before .before .before .before .pre .room))
-    (c .before .before .before .before .before .before .before .before .before .before .before .before .before .before .starts .ensures .filled) (c .before .before .before .before .before .before .before .before .before .before .before .before .write-head .ensures) (c .before .before .before .before .before .before .before .before .write-threads .ensures) (c .before .before .write-activities .ensures) in
-    rw (c .before .before .before .before .before .before .before .before .before .before .before .before .before .before .before .before .before .before .before .counts .ensures, c .before .before .before .before .before .before .before .before .before .before .before .before .before .before .before .before .grid-at .ensures) at whole
+    let c8 = c .before .before .before .before .before .before .before .before in
+    let c12 = c8 .before .before .before .before in
+    let c14 = c12 .before .before in
+    let c16 = c14 .before .before in
+    let c19 = c16 .before .before .before in
+    let c23 = c19 .before .before .before .before in
+    let x = c23 .args in
+    let whole = front-says _ _ _ _ _ _ _ _ (x .out .now) _ _ _ (omega (arith, ap (λ (r : Sizes). r .threads) (c19 .counts .ensures), ap (λ (r : Sizes). r .activities) (c19 .counts .ensures), c23 .pre .room))
+    (c14 .starts .ensures .filled) (c12 .write-head .ensures) (c8 .write-threads .ensures) (c .before .before .write-activities .ensures) in
+    rw (c19 .counts .ensures, c16 .grid-at .ensures) at whole
 
 pub write-front-spec : {M : Type 1} → statement M
 write-front-spec =

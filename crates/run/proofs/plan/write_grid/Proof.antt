@@ -32,13 +32,14 @@ part-fill-grid-end c = search needs
 fill-grid-requires : tie.Need-fill-grid-requires
 unfolding lengthNeeded
 fill-grid-requires c κs =
-    let x = c .before .before .before .before .before .args in
+    let c5 = c .before .before .before .before .before in
+    let x = c5 .args in
     let at = c .before .grid-at .result in (
-      c .before .before .before .before .before .pre .0,
+      c5 .pre .0,
       omega (
         arith,
         c .before .grid-at .ensures,
-        c .before .before .before .before .before .pre .1,
+        c5 .pre .1,
         length-drop at (x .out .now),
         length-take-le (length (x .out .now) - at) (drop at (x .out .now)) (omega (arith, length-drop at (x .out .now))),
       ),
@@ -50,12 +51,13 @@ same-length c = search needs
 returns : tie.Need-returns
 unfolding lengthNeeded
 returns c =
-    let x = c .before .before .before .before .before .before .before .before .args in
+    let c8 = c .before .before .before .before .before .before .before .before in
+    let x = c8 .args in
     let e = c .before .before .before .before .grid-at .ensures in
     let f = c .before .before .fill-grid .ensures in
     record {
       written =
-          part-says (c .before .before .before .before .grid-at .result) _ _ (x .out .now) _ (omega (arith, e, c .before .before .before .before .before .before .before .before .pre .1)) refl (f .written)
+          part-says (c .before .before .before .before .grid-at .result) _ _ (x .out .now) _ (omega (arith, e, c8 .pre .1)) refl (f .written)
           ∙ ap (λ (k : ℕ). put k (gridBytes (model (x .s .now)) (choice (x .q .now)) (model (x .s .now) .horizon)) (x .out .now)) e;
       owed-ticks = f .owed-ticks;
       end-ticks = f .end-ticks;

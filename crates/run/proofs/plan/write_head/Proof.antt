@@ -28,8 +28,14 @@ same-length c = search needs
 
 returns : tie.Need-returns
 returns c =
-    head-says _ _ _ _ _ _ _ _ _ _ (c .before .before .before .before .before .before .before .before .before .before .before .before .before .before .before .before .before .before .before .before .before .before .pre) (c .before .before .before .before .before .before .before .before .before .before .before .before .before .before .before .before .before .before .before .plan-length .ensures) (c .before .before .before .before .before .before .before .before .before .before .before .before .before .before .before .before .before .before .put32 .ensures)
-    (c .before .before .before .before .before .before .before .before .before .before .before .before .before .before .put8 .ensures) (c .before .before .before .before .before .before .before .before .before .before .put82 .ensures) (c .before .before .before .before .before .before .put83 .ensures) (c .before .before .put16 .ensures)
+    let c6 = c .before .before .before .before .before .before in
+    let c10 = c6 .before .before .before .before in
+    let c14 = c10 .before .before .before .before in
+    let c18 = c14 .before .before .before .before in
+    let c19 = c18 .before in
+    let c22 = c19 .before .before .before in
+    head-says _ _ _ _ _ _ _ _ _ _ (c22 .pre) (c19 .plan-length .ensures) (c18 .put32 .ensures)
+    (c14 .put8 .ensures) (c10 .put82 .ensures) (c6 .put83 .ensures) (c .before .before .put16 .ensures)
 
 pub write-head-spec : {M : Type 1} → statement M
 write-head-spec =

@@ -18,7 +18,10 @@ same-length : tie.Need-same-length
 same-length c = search needs
 
 returns : tie.Need-returns
-returns c = pair-says _ _ _ _ _ _ (c .before .before .before .before .before .before .before .before .before .pre) (c .before .before .before .before .before .before .put16 .ensures) (c .before .before .put162 .ensures)
+returns c =
+    let c6 = c .before .before .before .before .before .before in
+    let c9 = c6 .before .before .before in
+    pair-says _ _ _ _ _ _ (c9 .pre) (c6 .put16 .ensures) (c .before .before .put162 .ensures)
 
 pub write-pair-spec : {M : Type 1} → statement M
 write-pair-spec =

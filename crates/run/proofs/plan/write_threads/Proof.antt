@@ -48,7 +48,8 @@ loop-less c = omega arith
 loop-again : tie.Need-loop-again Inv-loop μ-loop
 unfolding timing
 loop-again c =
-    let l = c .before .before .before .before .before .before .loop in
+    let c6 = c .before .before .before .before .before .before in
+    let l = c6 .loop in
     let row = c .before .before .before .before .thread-row .ensures in (
       omega arith,
       c .before .before .write-pair .kept .0 ∙ l .inv .1,

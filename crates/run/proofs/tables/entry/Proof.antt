@@ -66,7 +66,8 @@ wide-requires-5 c κs = search needs
 returns : tie.Need-returns
 unfolding activityRowOf threadRowOf timing
 returns c =
-    let x = c .before .before .before .before .before .before .before .args in
+    let c7 = c .before .before .before .before .before .before .before in
+    let x = c7 .args in
     let thread : ActivityRow → ℕ = λ r. r .thread .0 in
     rw (c .before .before .enum-told .given .1)
     (c .wide .ensures
@@ -94,7 +95,8 @@ returns-5 c = rw (c .before .before .enum-told5 .given .1) (cc)
 returns-6 : tie.Need-returns-6
 unfolding activityRowOf threadRowOf timing
 returns-6 c =
-    let x = c .before .before .before .before .before .before .before .args in
+    let c7 = c .before .before .before .before .before .before .before in
+    let x = c7 .args in
     let thread : ActivityRow → ℕ = λ r. r .thread .0 in
     rw (c .before .before .enum-told6 .given .1)
     (c .wide4 .ensures
@@ -104,7 +106,8 @@ returns-6 c =
 returns-7 : tie.Need-returns-7
 unfolding activityRowOf threadRowOf timing
 returns-7 c =
-    let x = c .before .before .before .before .before .before .before .args in
+    let c7 = c .before .before .before .before .before .before .before in
+    let x = c7 .args in
     let thread : ActivityRow → ℕ = λ r. r .thread .0 in
     rw (c .before .before .enum-told7 .given .1)
     (c .wide5 .ensures

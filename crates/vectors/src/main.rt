@@ -1,0 +1,115 @@
+// Both checks and the run on the stored cases. CASES.md says what each case shows.
+//
+// data/cases holds how many cases of the checks there are, then for each its model and its plan; then how many cases of
+// the run, and for each its model, its choice and the buffer that is lent, each behind its length. These numbers take 4
+// bytes each, big-endian. For each case a line with its number, then the lines that gridcheck or gridrun prints of it; of
+// a run also the buffer afterwards, byte by byte in decimal.
+use libc::STDOUT_FILENO;
+ghost use Rattle.io.specs.Counts.{Counts};
+
+// The next number of the file, 0 past its end.
+fn next_number(fd: i32) -> u32 {
+    let mut four = [0u8; 4];
+    io::read_full(fd, &mut four);
+    fields::be32(&four, 0)
+}
+
+// Reads the next record into the start of the buffer and answers its length; 0 where the buffer is too short.
+fn next_record(fd: i32, buf: &mut [u8]) -> usize
+    ensures { λ r. ⌜ Counts r (now (buf .exit)) ⌝ }
+{
+    let n = next_number(fd) as usize;
+    if buf.len() < n {
+        return 0;
+    }
+    io::read_full(fd, &mut buf[..n])
+}
+
+// Prints the two lines of a model and a plan. They take at most 97 bytes.
+fn print_lines(model: &[u8], plan: &[u8]) {
+    let mut lines = [0u8; 128];
+    let n = text::check_lines(
+        &mut lines,
+        checks::check_plain(model, plan),
+        checks::check_strict(model, plan),
+    );
+    io::write_all(STDOUT_FILENO, &lines[..n]);
+}
+
+// Prints a case's number.
+fn print_number(number: u32) {
+    io::print_decimal(STDOUT_FILENO, number as u64);
+    io::write_all(STDOUT_FILENO, b"\n");
+}
+
+// Reads the next case of the checks and prints its lines.
+fn next_case(fd: i32, number: u32) {
+    let mut model = [0u8; 1024];
+    let mut plan = [0u8; 17189];
+    let m = next_record(fd, &mut model);
+    let p = next_record(fd, &mut plan);
+    print_number(number);
+    print_lines(&model[..m], &plan[..p]);
+}
+
+// Prints a buffer's bytes.
+fn print_bytes(bytes: &[u8]) {
+    io::write_all(STDOUT_FILENO, b"buffer");
+    let mut i = 0;
+    while i < bytes.len() {
+        io::write_all(STDOUT_FILENO, b" ");
+        io::print_decimal(STDOUT_FILENO, fields::byte(bytes, i) as u64);
+        i += 1;
+    }
+    io::write_all(STDOUT_FILENO, b"\n");
+}
+
+// Prints the lines of a model and a choice, and the buffer that the run leaves. The lines take at most 56,264 bytes.
+fn print_run(model: &[u8], choice: &[u8], out: &mut [u8]) {
+    let answer = run::run(model, choice, out);
+    let mut lines = [0u8; 60000];
+    let n = text::run_lines(&mut lines, answer, out);
+    io::write_all(STDOUT_FILENO, &lines[..n]);
+    print_bytes(out);
+}
+
+// Reads the next case of the run and prints its lines and its buffer.
+fn next_run(fd: i32, number: u32) {
+    let mut model = [0u8; 1024];
+    let mut choice = [0u8; 256];
+    let mut out = [0u8; 17189];
+    let m = next_record(fd, &mut model);
+    let c = next_record(fd, &mut choice);
+    let n = next_record(fd, &mut out);
+    print_number(number);
+    print_run(&model[..m], &choice[..c], &mut out[..n]);
+}
+
+fn all_cases(fd: i32) {
+    let count = next_number(fd);
+    let mut number = 0;
+    while number < count {
+        next_case(fd, number);
+        number += 1;
+    }
+}
+
+fn all_runs(fd: i32) {
+    let count = next_number(fd);
+    let mut number = 0;
+    while number < count {
+        next_run(fd, number);
+        number += 1;
+    }
+}
+
+fn main() {
+    let fd = os::open_read(b"cases");
+    if fd < 0 {
+        os::fail(b"cases");
+        return;
+    }
+    all_cases(fd);
+    all_runs(fd);
+    libc::close(fd);
+}

@@ -1,0 +1,248 @@
+//! Times the exports against the reference.
+//!
+//! `bench` prints the table. `bench CALL WHICH PAGE HORIZON TIMES` makes one call many times, for a profiler: CALL is
+//! plain, strict or run, WHICH is proved or reference, PAGE is a name from the table.
+
+use std::hint::black_box;
+use std::process::ExitCode;
+use std::time::{Duration, Instant};
+
+use grid_tests::records::{ActivityRow, Choice, Model, ThreadRow};
+use grid_tests::{proved, reference, Answer};
+
+/// A page with its records; the plan is the run's own, so that all three calls accept.
+struct Page {
+    model: Vec<u8>,
+    choice: Vec<u8>,
+    plan: Vec<u8>,
+}
+
+/// What a page is made from: the horizon gives the durations.
+struct Shape {
+    name: &'static str,
+    what: &'static str,
+    cores: u8,
+    threads: u8,
+    activities: u8,
+    /// Duration of activity a for a horizon.
+    duration: fn(u8, usize) -> usize,
+    /// Predecessors of activity a, in both masks.
+    predecessors: fn(u8) -> u32,
+    priority: fn(u8) -> u16,
+}
+
+/// All bits below `limit`.
+fn below(limit: u8) -> u32 {
+    (1u32 << limit) - 1
+}
+
+const SHAPES: &[Shape] = &[
+    Shape {
+        name: "waiting",
+        what: "8 short activities before 24 long ones of one priority; up to 16 wait",
+        cores: 8,
+        threads: 8,
+        activities: 32,
+        duration: |a, horizon| if a < 8 { 1 } else { (horizon - 2) / 3 },
+        predecessors: |a| if a < 8 { 0 } else { below(8) },
+        priority: |_| 5,
+    },
+    Shape {
+        name: "urgent",
+        what: "16 short activities before 16 long ones of 8 priorities",
+        cores: 8,
+        threads: 8,
+        activities: 32,
+        duration: |a, horizon| if a < 16 { 1 } else { (horizon - 4) / 2 },
+        predecessors: |a| if a < 16 { 0 } else { below(16) },
+        priority: |j| 10 * u16::from(j),
+    },
+    Shape {
+        name: "layers",
+        what: "4 layers of 8 activities, each after all earlier layers",
+        cores: 8,
+        threads: 8,
+        activities: 32,
+        duration: |_, horizon| horizon / 4,
+        predecessors: |a| below(a / 8 * 8),
+        priority: |j| u16::from(j / 2),
+    },
+    Shape {
+        name: "chain",
+        what: "each activity after all earlier ones, 7 cores free",
+        cores: 8,
+        threads: 8,
+        activities: 32,
+        duration: |_, horizon| horizon / 32,
+        predecessors: below,
+        priority: |j| u16::from(j),
+    },
+    Shape {
+        name: "middle",
+        what: "4 cores, 8 threads, 16 activities, 4 before 12",
+        cores: 4,
+        threads: 8,
+        activities: 16,
+        duration: |a, horizon| if a < 4 { 2 } else { (horizon - 2) / 3 },
+        predecessors: |a| if a < 4 { 0 } else { below(4) },
+        priority: |j| u16::from(j / 4),
+    },
+    Shape {
+        name: "small",
+        what: "1 core, 2 threads, 3 activities",
+        cores: 1,
+        threads: 2,
+        activities: 3,
+        duration: |_, horizon| horizon / 3,
+        predecessors: |a| if a == 2 { 3 } else { 0 },
+        priority: |j| u16::from(j),
+    },
+];
+
+/// The pages of the table.
+const PAGES: &[(&str, usize)] = &[
+    ("waiting", 4096),
+    ("urgent", 4096),
+    ("layers", 4096),
+    ("chain", 4096),
+    ("middle", 1024),
+    ("middle", 256),
+    ("small", 64),
+    ("small", 8),
+];
+
+/// The page and the horizons of the second table.
+const GROWING: &str = "waiting";
+const HORIZONS: [usize; 4] = [512, 1024, 2048, 4096];
+
+fn page(name: &str, horizon: usize) -> Page {
+    let shape = SHAPES.iter().find(|shape| shape.name == name).expect("no page of that name");
+    let durations: Vec<u16> = (0..shape.activities).map(|a| (shape.duration)(a, horizon) as u16).collect();
+    let threads = (0..shape.threads)
+        .map(|j| ThreadRow { period: (1, 65535), release: (0, 65535), priority: (shape.priority)(j) })
+        .collect();
+    let activities = (0..shape.activities)
+        .map(|a| ActivityRow {
+            thread: a % shape.threads,
+            duration: (1, 65535),
+            delay: 0,
+            temporal: (shape.predecessors)(a),
+            data: (shape.predecessors)(a),
+        })
+        .collect();
+    let model = Model { cores: shape.cores, horizon: horizon as u16, threads, activities };
+    let choice = Choice { threads: vec![(0, horizon as u16); shape.threads.into()], durations };
+    let mut plan = vec![0; model.plan_length()];
+    let (model, choice) = (model.bytes(), choice.bytes());
+    reference::run(&model, &choice, &mut plan).expect("the run of a page must succeed");
+    reference::check_strict(&model, &plan).expect("the plan of a page must pass");
+    Page { model, choice, plan }
+}
+
+const CALLS: [&str; 3] = ["plain", "strict", "run"];
+const SIDES: [&str; 2] = ["proved", "reference"];
+
+/// Makes one call; `out` is as long as the plan.
+fn call(call: &str, which: &str, page: &Page, out: &mut [u8]) -> Answer {
+    let (model, choice, plan) = (black_box(&page.model), black_box(&page.choice), black_box(&page.plan));
+    match (call, which) {
+        ("plain", "proved") => proved::check_plain(model, plan),
+        ("strict", "proved") => proved::check_strict(model, plan),
+        ("run", "proved") => proved::run(model, choice, out),
+        ("plain", "reference") => reference::check_plain(model, plan).into(),
+        ("strict", "reference") => reference::check_strict(model, plan).into(),
+        ("run", "reference") => reference::run(model, choice, out).into(),
+        _ => panic!("no such call"),
+    }
+}
+
+/// Microseconds of one call on each side: the least mean of many short rounds, both sides taking turns, so that other
+/// work on the machine hardly shows.
+fn time(name: &str, page: &Page) -> [f64; 2] {
+    const ROUNDS: usize = 150;
+    const ROUND: Duration = Duration::from_micros(500);
+    let mut out = vec![0; page.plan.len()];
+    let mut least = [f64::INFINITY; 2];
+    for _ in 0..ROUNDS {
+        for (side, which) in SIDES.iter().enumerate() {
+            let begin = Instant::now();
+            let mut calls = 0;
+            while begin.elapsed() < ROUND {
+                let answer = black_box(call(name, which, page, &mut out));
+                assert_eq!(answer.number, 0, "{name} of the {which} refused a page");
+                calls += 1;
+            }
+            least[side] = least[side].min(begin.elapsed().as_secs_f64() * 1e6 / f64::from(calls));
+        }
+    }
+    assert!(out == page.plan || name != "run", "the run wrote another plan");
+    least
+}
+
+fn table() {
+    println!("microseconds of one call, all accepted; ratio is proved / reference");
+    println!("{:<10} {:>5}  {:<7} {:>10} {:>10} {:>6}", "page", "H", "call", SIDES[0], SIDES[1], "ratio");
+    for &(name, horizon) in PAGES {
+        let page = page(name, horizon);
+        for call in CALLS {
+            let [ours, theirs] = time(call, &page);
+            println!("{name:<10} {horizon:>5}  {call:<7} {ours:>10.2} {theirs:>10.2} {:>6.2}", ours / theirs);
+        }
+    }
+    println!();
+    println!("cost against the horizon, page {GROWING}: microseconds, and nanoseconds for each tick");
+    println!(
+        "{:<7} {:>5}  {:>10} {:>10} {:>6} {:>12} {:>12}",
+        "call", "H", SIDES[0], SIDES[1], "ratio", "proved/tick", "ref./tick"
+    );
+    for call in CALLS {
+        for horizon in HORIZONS {
+            let [ours, theirs] = time(call, &page(GROWING, horizon));
+            let tick = 1000.0 / horizon as f64;
+            println!(
+                "{call:<7} {horizon:>5}  {ours:>10.2} {theirs:>10.2} {:>6.2} {:>12.1} {:>12.1}",
+                ours / theirs,
+                ours * tick,
+                theirs * tick
+            );
+        }
+    }
+    println!();
+    for shape in SHAPES {
+        let (cores, threads, activities) = (shape.cores, shape.threads, shape.activities);
+        println!("{}: {}; cores {cores}, threads {threads}, activities {activities}", shape.name, shape.what);
+    }
+}
+
+/// One call, many times.
+fn repeat(words: &[String]) -> Option<()> {
+    let [name, which, page_name, horizon, times] = words else {
+        return None;
+    };
+    let horizon: usize = horizon.parse().ok()?;
+    let times: u32 = times.parse().ok()?;
+    let known = CALLS.contains(&name.as_str())
+        && SIDES.contains(&which.as_str())
+        && SHAPES.iter().any(|shape| shape.name == page_name)
+        && (8..=4096).contains(&horizon);
+    if !known {
+        return None;
+    }
+    let page = page(page_name, horizon);
+    let mut out = vec![0; page.plan.len()];
+    for _ in 0..times {
+        black_box(call(name, which, &page, &mut out));
+    }
+    Some(())
+}
+
+fn main() -> ExitCode {
+    let words: Vec<String> = std::env::args().skip(1).collect();
+    if words.is_empty() {
+        table();
+    } else if repeat(&words).is_none() {
+        eprintln!("usage: bench [plain|strict|run proved|reference PAGE HORIZON TIMES]");
+        return ExitCode::from(2);
+    }
+    ExitCode::SUCCESS
+}

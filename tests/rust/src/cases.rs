@@ -1,0 +1,670 @@
+//! Pairs of records for the comparison: sound ones, damaged ones, and plans that leave the rules in chosen places.
+
+use crate::random::Random;
+use crate::records::{set_length, ActivityRow, Choice, Model, Plan, ThreadRow};
+
+/// A pair of records and the buffer that is lent to the run, as it is before the call.
+pub struct Case {
+    pub kind: &'static str,
+    pub model: Vec<u8>,
+    pub second: Vec<u8>,
+    pub buffer: Vec<u8>,
+}
+
+type Maker = fn(&mut Random) -> Case;
+
+/// Each kind of case with its share.
+const KINDS: &[(usize, &str, Maker)] = &[
+    (2, "random bytes", random_bytes),
+    (10, "damaged model", damaged_model),
+    (6, "damaged choice", damaged_choice),
+    (6, "damaged plan", damaged_plan),
+    (10, "run", sound_run),
+    (5, "late run", late_run),
+    (4, "owed run", owed_run),
+    (8, "plan of the run", sound_plan),
+    (6, "moved tick", moved_tick),
+    (4, "exchanged activities", exchanged_activities),
+    (3, "exchanged ticks", exchanged_ticks),
+    (5, "nudged rows", nudged_rows),
+    (3, "flipped bits", flipped_bits),
+    (4, "idle tick", idle_tick),
+    (2, "other duration", other_duration),
+    (3, "late plan", late_plan),
+    (3, "temporal precedence ignored", temporal_ignored),
+    (3, "data dependency ignored", data_ignored),
+    (3, "release ignored", release_ignored),
+    (3, "more cores", more_cores),
+    (4, "other priorities", other_priorities),
+    (4, "ties to the higher number", ties_to_higher),
+    (4, "lazy", lazy),
+    (5, "several habits", several_habits),
+];
+
+/// The case of this number.
+pub fn make(seed: u64, number: u64) -> Case {
+    let random = &mut Random::of_case(seed, number);
+    let total = KINDS.iter().map(|kind| kind.0).sum();
+    let mut left = random.below(total);
+    for &(share, name, maker) in KINDS {
+        if left < share {
+            return Case { kind: name, ..maker(random) };
+        }
+        left -= share;
+    }
+    unreachable!()
+}
+
+// Models and choices
+
+struct Size {
+    threads: usize,
+    activities: usize,
+    /// The most work of one activity.
+    duration: usize,
+    largest: bool,
+}
+
+fn size(random: &mut Random) -> Size {
+    match random.below(200) {
+        0 => Size { threads: 8, activities: 32, duration: 900, largest: true },
+        1..=25 => Size { threads: 8, activities: 32, duration: 6, largest: false },
+        _ => Size { threads: 3, activities: 6, duration: 4, largest: false },
+    }
+}
+
+/// A model that meets its form rules, without periods and with the longest horizon.
+fn model(random: &mut Random) -> Model {
+    let size = size(random);
+    let n = if size.largest { size.threads } else { random.within(1, size.threads) };
+    let m = if size.largest { size.activities } else { random.within(1, size.activities) };
+    let cores = match random.below(8) {
+        0..=3 => 1,
+        4..=5 => 2,
+        6 => random.within(1, 4),
+        _ => random.within(1, 8),
+    };
+    let releases = random.pick(&[0, 0, 3, 8]);
+    let huge_release = random.one_in(40);
+    let huge_delay = random.one_in(25);
+    let priorities = random.pick(&[1, 2, 3, 3, 65536]);
+    let threads = (0..n)
+        .map(|_| {
+            let huge = huge_release && random.one_in(2);
+            let least = if huge { random.pick(&[4096, 65000, 65532]) } else { random.below(releases + 1) as u16 };
+            let most = least + random.below(4) as u16;
+            ThreadRow { period: (0, 0), release: (least, most), priority: random.below(priorities) as u16 }
+        })
+        .collect();
+    let delays = random.pick(&[0, 0, 3, 6]);
+    let thinness = random.pick(&[2, 4, 8, 32, 1000]);
+    let activities = (0..m)
+        .map(|a| {
+            let least = random.within(1, size.duration) as u16;
+            let most = least + random.below(3) as u16;
+            let huge = huge_delay && random.one_in(2);
+            let delay = if huge { random.pick(&[4095, 65000, 65530, 65535]) } else { random.below(delays + 1) as u16 };
+            ActivityRow {
+                thread: random.below(n) as u8,
+                duration: (least, most),
+                delay,
+                temporal: mask(random, a, thinness),
+                data: mask(random, a, thinness),
+            }
+        })
+        .collect();
+    Model { cores: cores as u8, horizon: 4096, threads, activities }
+}
+
+/// A mask of bits below `limit`, each set once in `thinness` on average.
+fn mask(random: &mut Random, limit: usize, thinness: usize) -> u32 {
+    (0..limit).filter(|_| random.one_in(thinness)).map(|b| 1 << b).sum()
+}
+
+fn choice(random: &mut Random, model: &Model) -> Choice {
+    let mut between = |range: (u16, u16)| random.within(range.0.into(), range.1.into()) as u16;
+    Choice {
+        threads: model.threads.iter().map(|thread| (between(thread.release), between(thread.period))).collect(),
+        durations: model.activities.iter().map(|activity| between(activity.duration)).collect(),
+    }
+}
+
+// Grids
+
+/// How a grid is filled. Without any habit it is filled as the run does.
+#[derive(Default)]
+struct Habits {
+    ignores_temporal: bool,
+    ignores_delay: bool,
+    ignores_data: bool,
+    ignores_release: bool,
+    more_cores: usize,
+    /// Instead of the thread's priority.
+    rank: Option<Vec<usize>>,
+    ties_to_higher: bool,
+    /// Passes over a ready activity once in this many; 0 for never.
+    lazy: usize,
+}
+
+/// Fills a grid up to the tick at which nothing is owed, or to 4096 ticks.
+fn fill(random: &mut Random, model: &Model, choice: &Choice, habits: &Habits) -> Vec<u32> {
+    let m = model.activities.len();
+    let rank = |a: usize| match &habits.rank {
+        Some(rank) => rank[a],
+        None => model.threads[usize::from(model.activities[a].thread)].priority.into(),
+    };
+    let mut order: Vec<usize> = (0..m).collect();
+    order.sort_by(|&a, &b| rank(b).cmp(&rank(a)).then(if habits.ties_to_higher { b.cmp(&a) } else { a.cmp(&b) }));
+    let mut owed: Vec<usize> = choice.durations.iter().map(|&duration| duration.into()).collect();
+    let mut end: Vec<Option<usize>> = vec![None; m];
+    let mut words = Vec::new();
+    while words.len() < 4096 && end.contains(&None) {
+        let t = words.len();
+        let mut word = 0u32;
+        for &a in &order {
+            let activity = &model.activities[a];
+            let ended = |b: usize, delay: usize| end[b].is_some_and(|end| end + delay <= t);
+            let temporal = |b: usize| {
+                habits.ignores_temporal
+                    || activity.temporal >> b & 1 == 0
+                    || ended(b, if habits.ignores_delay { 0 } else { model.activities[b].delay.into() })
+            };
+            let data = |b: usize| habits.ignores_data || activity.data >> b & 1 == 0 || ended(b, 0);
+            let release = usize::from(choice.threads[usize::from(activity.thread)].0);
+            let ready =
+                owed[a] > 0 && (habits.ignores_release || release <= t) && (0..a).all(temporal) && (0..a).all(data);
+            if ready
+                && (word.count_ones() as usize) < usize::from(model.cores) + habits.more_cores
+                && !(habits.lazy > 0 && random.one_in(habits.lazy))
+            {
+                word |= 1 << a;
+            }
+        }
+        for a in 0..m {
+            if word >> a & 1 == 1 {
+                owed[a] -= 1;
+                if owed[a] == 0 {
+                    end[a] = Some(t + 1);
+                }
+            }
+        }
+        words.push(word);
+    }
+    words
+}
+
+/// A model with a choice and a plan.
+struct Page {
+    model: Model,
+    choice: Choice,
+    plan: Plan,
+}
+
+/// A page whose grid was filled with these habits; the horizon and the periods leave it room.
+fn page(random: &mut Random, habits: fn(&mut Random, &Model) -> Habits) -> Page {
+    let mut model = model(random);
+    let mut choice = choice(random, &model);
+    let habits = habits(random, &model);
+    let mut words = fill(random, &model, &choice, &habits);
+    if words.len() < 4096 {
+        let room = random.pick(&[0, 0, 1, 2, 5]);
+        words.resize(usize::min(words.len() + room, 4096), 0);
+    } else {
+        // Something is owed still, whatever the horizon.
+        words.truncate(random.pick(&[20, 20, 20, 20, 4096]));
+    }
+    model.horizon = words.len() as u16;
+    let plan = Plan::of_words(choice.threads.clone(), model.activities.len(), words);
+    let ends: Vec<usize> = plan.rows.iter().map(|row| row.1.into()).collect();
+    set_periods(random, &mut model, &mut choice, &ends, 0);
+    let plan = Plan { threads: choice.threads.clone(), ..plan };
+    Page { model, choice, plan }
+}
+
+/// Gives half of the threads a period that their ends keep, and one in `late` of those a shorter one.
+fn set_periods(random: &mut Random, model: &mut Model, choice: &mut Choice, ends: &[usize], late: usize) {
+    for j in 0..model.threads.len() {
+        if random.one_in(2) {
+            continue;
+        }
+        let owned = |(a, _): &(usize, &usize)| usize::from(model.activities[*a].thread) == j;
+        let greatest = ends.iter().enumerate().filter(owned).map(|(_, &end)| end).max().unwrap_or(0);
+        let period = if late > 0 && random.one_in(late) && greatest > 1 {
+            let shorter = [greatest - 1, random.within(1, greatest - 1)];
+            random.pick(&shorter)
+        } else {
+            greatest + random.pick(&[0, 0, 1, 7])
+        };
+        let period = period.clamp(1, 65535);
+        let least = random.pick(&[period, 1, period / 2 + 1]).min(period);
+        let most = random.pick(&[period, period + 3, 65535]).min(65535);
+        model.threads[j].period = (least as u16, most as u16);
+        choice.threads[j].1 = period as u16;
+    }
+}
+
+fn no_habits(_: &mut Random, _: &Model) -> Habits {
+    Habits::default()
+}
+
+// Buffers
+
+/// A buffer for a plan of this length: too short, exact or longer, and filled before.
+fn buffer(random: &mut Random, length: usize) -> Vec<u8> {
+    let length = match random.below(12) {
+        0 => length - 1,
+        1 => random.below(length),
+        2..=6 => length,
+        _ => length + random.within(1, 12),
+    };
+    match random.below(3) {
+        0 => vec![random.pick(&[0, 1, 170, 255]); length],
+        _ => random.bytes(length),
+    }
+}
+
+fn run_case(random: &mut Random, model: &Model, choice: &Choice) -> Case {
+    let buffer = buffer(random, model.plan_length());
+    Case { kind: "", model: model.bytes(), second: choice.bytes(), buffer }
+}
+
+fn plan_case(random: &mut Random, page: &Page) -> Case {
+    let length = random.below(40);
+    let buffer = random.bytes(length);
+    Case { kind: "", model: page.model.bytes(), second: page.plan.bytes(), buffer }
+}
+
+// Runs
+
+fn sound_run(random: &mut Random) -> Case {
+    let page = page(random, no_habits);
+    run_case(random, &page.model, &page.choice)
+}
+
+fn late_run(random: &mut Random) -> Case {
+    let mut page = page(random, no_habits);
+    let ends: Vec<usize> = page.plan.rows.iter().map(|row| row.1.into()).collect();
+    set_periods(random, &mut page.model, &mut page.choice, &ends, 2);
+    run_case(random, &page.model, &page.choice)
+}
+
+/// The horizon falls short, and periods may be short as well.
+fn owed_run(random: &mut Random) -> Case {
+    let mut page = page(random, no_habits);
+    let ends: Vec<usize> = page.plan.rows.iter().map(|row| row.1.into()).collect();
+    let late = random.pick(&[0, 2]);
+    set_periods(random, &mut page.model, &mut page.choice, &ends, late);
+    let last = ends.iter().copied().max().unwrap_or(1).max(2);
+    page.model.horizon = random.pick(&[last - 1, last - 1, last / 2, last]) as u16;
+    run_case(random, &page.model, &page.choice)
+}
+
+// Plans
+
+fn sound_plan(random: &mut Random) -> Case {
+    let page = page(random, no_habits);
+    plan_case(random, &page)
+}
+
+/// Takes the rows from the words again, but for one time in eight.
+fn settle(random: &mut Random, page: &mut Page) {
+    if !random.one_in(8) {
+        let plan = &page.plan;
+        page.plan = Plan::of_words(plan.threads.clone(), plan.rows.len(), plan.words.clone());
+    }
+}
+
+fn moved_tick(random: &mut Random) -> Case {
+    let mut page = page(random, no_habits);
+    let a = random.below(page.plan.rows.len());
+    let words = &mut page.plan.words;
+    let from: Vec<usize> = (0..words.len()).filter(|&t| words[t] >> a & 1 == 1).collect();
+    let to: Vec<usize> = (0..words.len()).filter(|&t| words[t] >> a & 1 == 0).collect();
+    if !from.is_empty() && !to.is_empty() {
+        let from = match random.below(3) {
+            0 => from[0],
+            1 => from[from.len() - 1],
+            _ => random.pick(&from),
+        };
+        let near: Vec<usize> = to.iter().copied().filter(|&t| t.abs_diff(from) < 4).collect();
+        let to = if near.is_empty() || random.one_in(3) { random.pick(&to) } else { random.pick(&near) };
+        words[from] &= !(1 << a);
+        words[to] |= 1 << a;
+    }
+    settle(random, &mut page);
+    plan_case(random, &page)
+}
+
+fn exchanged_activities(random: &mut Random) -> Case {
+    let mut page = page(random, no_habits);
+    let a = random.below(page.plan.rows.len());
+    let b = random.below(page.plan.rows.len());
+    let from = if random.one_in(2) { 0 } else { random.below(page.plan.words.len()) };
+    for word in &mut page.plan.words[from..] {
+        let bits = (*word >> a & 1, *word >> b & 1);
+        *word = *word & !(1 << a) & !(1 << b) | bits.0 << b | bits.1 << a;
+    }
+    settle(random, &mut page);
+    plan_case(random, &page)
+}
+
+fn exchanged_ticks(random: &mut Random) -> Case {
+    let mut page = page(random, no_habits);
+    let s = random.below(page.plan.words.len());
+    let t = if random.one_in(2) { random.below(page.plan.words.len()) } else { (s + 1) % page.plan.words.len() };
+    page.plan.words.swap(s, t);
+    settle(random, &mut page);
+    plan_case(random, &page)
+}
+
+fn nudged_rows(random: &mut Random) -> Case {
+    let mut page = page(random, no_habits);
+    let horizon = page.model.horizon;
+    for _ in 0..random.within(1, 2) {
+        let a = random.below(page.plan.rows.len());
+        let (start, end) = page.plan.rows[a];
+        let nudge = |random: &mut Random, value: u16| {
+            random.pick(&[value.wrapping_add(1), value.wrapping_sub(1), 0, horizon, horizon + 1, 65535])
+        };
+        page.plan.rows[a] = match random.below(4) {
+            0 => (nudge(random, start), end),
+            1 => (start, nudge(random, end)),
+            2 => (end, start),
+            _ => (nudge(random, start), nudge(random, end)),
+        };
+    }
+    if random.one_in(4) {
+        let j = random.below(page.plan.threads.len());
+        let (release, period) = &mut page.plan.threads[j];
+        *release = release.wrapping_add(random.pick(&[0, 1, 65535]));
+        *period = period.wrapping_add(random.pick(&[0, 1, 65535]));
+    }
+    plan_case(random, &page)
+}
+
+fn flipped_bits(random: &mut Random) -> Case {
+    let mut page = page(random, no_habits);
+    for _ in 0..random.within(1, 3) {
+        let t = random.below(page.plan.words.len());
+        page.plan.words[t] ^= 1 << random.below(page.plan.rows.len());
+    }
+    settle(random, &mut page);
+    plan_case(random, &page)
+}
+
+fn idle_tick(random: &mut Random) -> Case {
+    let mut page = page(random, no_habits);
+    if page.model.horizon < 4096 {
+        page.model.horizon += 1;
+        let t = random.below(page.plan.words.len());
+        let idle = random.pick(&[0, 0, page.plan.words[t]]);
+        page.plan.words.insert(t, idle);
+    }
+    settle(random, &mut page);
+    plan_case(random, &page)
+}
+
+fn other_duration(random: &mut Random) -> Case {
+    let mut page = page(random, no_habits);
+    for _ in 0..random.within(1, 2) {
+        let a = random.below(page.plan.rows.len());
+        let count = page.choice.durations[a];
+        page.model.activities[a].duration =
+            if count > 1 && random.one_in(2) { (1, count - 1) } else { (count + 1, count + 2) };
+    }
+    plan_case(random, &page)
+}
+
+fn late_plan(random: &mut Random) -> Case {
+    let mut page = page(random, no_habits);
+    let ends: Vec<usize> = page.plan.rows.iter().map(|row| row.1.into()).collect();
+    set_periods(random, &mut page.model, &mut page.choice, &ends, 2);
+    page.plan.threads = page.choice.threads.clone();
+    plan_case(random, &page)
+}
+
+fn temporal_ignored(random: &mut Random) -> Case {
+    let page = page(random, |random, _| match random.below(2) {
+        0 => Habits { ignores_temporal: true, ..Habits::default() },
+        _ => Habits { ignores_delay: true, ..Habits::default() },
+    });
+    plan_case(random, &page)
+}
+
+fn data_ignored(random: &mut Random) -> Case {
+    let page = page(random, |_, _| Habits { ignores_data: true, ..Habits::default() });
+    plan_case(random, &page)
+}
+
+fn release_ignored(random: &mut Random) -> Case {
+    let page = page(random, |_, _| Habits { ignores_release: true, ..Habits::default() });
+    plan_case(random, &page)
+}
+
+fn more_cores(random: &mut Random) -> Case {
+    let page = page(random, |random, _| Habits { more_cores: random.within(1, 3), ..Habits::default() });
+    plan_case(random, &page)
+}
+
+fn any_rank(random: &mut Random, model: &Model) -> Option<Vec<usize>> {
+    Some(model.activities.iter().map(|_| random.below(3)).collect())
+}
+
+fn other_priorities(random: &mut Random) -> Case {
+    let page = page(random, |random, model| Habits { rank: any_rank(random, model), ..Habits::default() });
+    plan_case(random, &page)
+}
+
+fn ties_to_higher(random: &mut Random) -> Case {
+    let page = page(random, |_, _| Habits { ties_to_higher: true, ..Habits::default() });
+    plan_case(random, &page)
+}
+
+fn lazy(random: &mut Random) -> Case {
+    let page = page(random, |random, _| Habits { lazy: random.pick(&[2, 4, 10]), ..Habits::default() });
+    plan_case(random, &page)
+}
+
+fn several_habits(random: &mut Random) -> Case {
+    let page = page(random, |random, model| Habits {
+        ignores_temporal: random.one_in(5),
+        ignores_delay: random.one_in(5),
+        ignores_data: random.one_in(5),
+        ignores_release: random.one_in(5),
+        more_cores: random.pick(&[0, 0, 0, 1]),
+        rank: if random.one_in(3) { any_rank(random, model) } else { None },
+        ties_to_higher: random.one_in(3),
+        lazy: random.pick(&[0, 0, 4]),
+    });
+    plan_case(random, &page)
+}
+
+// Damaged records
+
+fn random_bytes(random: &mut Random) -> Case {
+    let length = random.below(80);
+    let mut model = random.bytes(length);
+    if model.len() >= 10 && !random.one_in(4) {
+        let n = random.within(0, 3);
+        let m = random.within(0, 3);
+        if !random.one_in(4) {
+            model.resize(10 + 10 * n + 15 * m, 0);
+        }
+        let head = [0, 0, 0, 0, 1, random.within(0, 9) as u8, n as u8, m as u8, 0, random.below(9) as u8];
+        model[..10].copy_from_slice(&head);
+        set_length(&mut model);
+    }
+    let length = random.below(60);
+    let mut second = random.bytes(length);
+    if second.len() >= 4 && random.one_in(2) {
+        set_length(&mut second);
+    }
+    let length = random.below(60);
+    let buffer = random.bytes(length);
+    Case { kind: "", model, second, buffer }
+}
+
+/// A sound page as a run or as a plan.
+fn sound_case(random: &mut Random) -> (Page, Case) {
+    let page = page(random, no_habits);
+    let case = if random.one_in(2) { run_case(random, &page.model, &page.choice) } else { plan_case(random, &page) };
+    (page, case)
+}
+
+fn damaged_model(random: &mut Random) -> Case {
+    let (page, mut case) = sound_case(random);
+    let mut number = random.within(1, 7);
+    loop {
+        damage_model(random, number, &page.model, &mut case.model);
+        if !random.one_in(3) {
+            break;
+        }
+        number = random.within(1, 7);
+    }
+    match random.below(8) {
+        0 => case.second.clear(),
+        1 => damage_second_head(random, &mut case.second),
+        _ => {}
+    }
+    case
+}
+
+/// Breaks the form rule of this number, most of the time.
+fn damage_model(random: &mut Random, number: usize, model: &Model, bytes: &mut Vec<u8>) {
+    let n = model.threads.len();
+    let m = model.activities.len();
+    // An earlier damage may have changed the length.
+    if bytes.len() != 10 + 10 * n + 15 * m {
+        return;
+    }
+    let thread_row = 10 + 10 * random.below(n);
+    let a = random.below(m);
+    let activity_row = 10 + 10 * n + 15 * a;
+    match number {
+        1 => damage_length(random, bytes),
+        2 => bytes[4] = random.pick(&[0, 2, 3, 255]),
+        3 => match random.below(4) {
+            0 => bytes[5] = random.pick(&[0, 9, 255]),
+            1 => bytes[6] = random.pick(&[0, 9, 255]),
+            2 => bytes[7] = random.pick(&[0, 33, 255]),
+            _ => {
+                let horizon: u16 = random.pick(&[0, 4097, 65535]);
+                bytes[8..10].copy_from_slice(&horizon.to_be_bytes());
+            }
+        },
+        4 => match random.below(4) {
+            0 => bytes[6] = random.within(1, 8) as u8,
+            1 => bytes[7] = random.within(1, 32) as u8,
+            _ => resize_with_length(random, bytes, 10),
+        },
+        5 => match random.below(3) {
+            0 => put_pair(bytes, thread_row, (8, 7)),
+            1 => put_pair(bytes, thread_row + 4, (1, 0)),
+            _ => put_pair(bytes, thread_row, (0, random.pick(&[1, 256, 65535]))),
+        },
+        6 => match random.below(3) {
+            0 => bytes[activity_row] = random.pick(&[n as u8, n as u8 + 1, 255]),
+            1 => put_pair(bytes, activity_row + 1, (0, random.pick(&[0, 1, 256]))),
+            _ => put_pair(bytes, activity_row + 1, random.pick(&[(2, 1), (256, 255)])),
+        },
+        _ => {
+            let bit = if random.one_in(2) { a } else { random.within(a, 31) };
+            let mask = activity_row + random.pick(&[7, 11]);
+            bytes[mask + 3 - bit / 8] |= 1 << (bit % 8);
+        }
+    }
+}
+
+fn put_pair(bytes: &mut [u8], at: usize, pair: (u16, u16)) {
+    bytes[at..at + 2].copy_from_slice(&pair.0.to_be_bytes());
+    bytes[at + 2..at + 4].copy_from_slice(&pair.1.to_be_bytes());
+}
+
+/// Parts the length field from the bytes given, or leaves too few bytes.
+fn damage_length(random: &mut Random, bytes: &mut Vec<u8>) {
+    match random.below(6) {
+        0 => bytes.truncate(random.below(bytes.len())),
+        1 => bytes.truncate(random.below(10)),
+        2 => {
+            bytes.truncate(random.within(4, 10));
+            set_length(bytes);
+        }
+        3 => bytes.push(0),
+        4 => bytes[random.below(3)] ^= 1 << random.below(8),
+        _ => bytes[3] ^= 1 << random.below(8),
+    }
+}
+
+/// Another length than the formula's, told truly by the length field.
+fn resize_with_length(random: &mut Random, bytes: &mut Vec<u8>, least: usize) {
+    let length = random.pick(&[least, bytes.len() - 1, bytes.len() + 1, bytes.len() + 2, bytes.len() + 15]);
+    bytes.resize(length.max(least), 0);
+    set_length(bytes);
+}
+
+fn damage_second_head(random: &mut Random, bytes: &mut Vec<u8>) {
+    match random.below(4) {
+        0 => damage_length(random, bytes),
+        1 => bytes[4] = random.pick(&[0, 2, 255]),
+        2 => {
+            let at = random.within(5, 8);
+            bytes[at] = bytes[at].wrapping_add(random.pick(&[1, 255, 8]));
+        }
+        _ => resize_with_length(random, bytes, 9),
+    }
+}
+
+/// A value just outside of the range, where there is one.
+fn outside(random: &mut Random, range: (u16, u16)) -> u16 {
+    let below = range.0.checked_sub(1);
+    let above = range.1.checked_add(1);
+    if random.one_in(2) { below.or(above) } else { above.or(below) }.unwrap_or(0)
+}
+
+fn damage_chosen(random: &mut Random, model: &Model, threads: &mut [(u16, u16)]) {
+    let j = random.below(threads.len());
+    if random.one_in(2) {
+        threads[j].0 = outside(random, model.threads[j].release);
+    } else {
+        threads[j].1 = outside(random, model.threads[j].period);
+    }
+}
+
+fn damaged_choice(random: &mut Random) -> Case {
+    let mut page = page(random, no_habits);
+    let what = random.below(4);
+    if what == 1 || what == 3 {
+        damage_chosen(random, &page.model, &mut page.choice.threads);
+    }
+    if what == 2 || what == 3 {
+        for _ in 0..random.within(1, 2) {
+            let a = random.below(page.choice.durations.len());
+            page.choice.durations[a] = outside(random, page.model.activities[a].duration);
+        }
+    }
+    let mut case = run_case(random, &page.model, &page.choice);
+    if what == 0 || random.one_in(8) {
+        damage_second_head(random, &mut case.second);
+    }
+    case
+}
+
+fn damaged_plan(random: &mut Random) -> Case {
+    let mut page = page(random, no_habits);
+    let what = random.below(4);
+    if what == 1 || what == 3 {
+        damage_chosen(random, &page.model, &mut page.plan.threads);
+    }
+    let m = page.plan.rows.len();
+    if (what == 2 || what == 3) && m < 32 {
+        for _ in 0..random.within(1, 2) {
+            let t = random.below(page.plan.words.len());
+            page.plan.words[t] |= 1 << random.pick(&[m, 31]);
+        }
+    }
+    let mut case = plan_case(random, &page);
+    if what == 0 || random.one_in(8) {
+        damage_second_head(random, &mut case.second);
+    }
+    case
+}

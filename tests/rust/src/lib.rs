@@ -1,0 +1,51 @@
+//! An independent program of the paper's rules (`reference`), the exports of the proved code (`proved`) and what is
+//! needed to compare them. From this package's folder, where `rt` makes the archive as part of the build:
+//!
+//! - `cargo test --release`: the paper's cases and the solutions of source document 000, with both programs
+//! - `cargo run --release --bin compare`: many pairs of records, with a table of the answers reached
+//! - `cargo run --release --bin bench`: the times of both
+
+pub mod cases;
+pub mod proved;
+pub mod random;
+pub mod records;
+pub mod reference;
+
+use reference::{Figures, Refusal};
+
+/// The answer of an export. `number` is 0 for a pass, then come usage, cores times horizon, makespan and the length of
+/// the plan (0 for a check); otherwise it is the refusal's number, then come A, B, 0 and 0.
+#[repr(C)]
+#[derive(Clone, Copy, Debug, PartialEq, Eq)]
+pub struct Answer {
+    pub number: u32,
+    pub first: u32,
+    pub second: u32,
+    pub third: u32,
+    pub length: u32,
+}
+
+impl Answer {
+    pub fn accepted(usage: u32, capacity: u32, makespan: u32, length: u32) -> Answer {
+        Answer { number: 0, first: usage, second: capacity, third: makespan, length }
+    }
+
+    pub fn refused(number: u32, a: u32, b: u32) -> Answer {
+        Answer { number, first: a, second: b, third: 0, length: 0 }
+    }
+}
+
+impl From<Result<Figures, Refusal>> for Answer {
+    fn from(result: Result<Figures, Refusal>) -> Answer {
+        result.map(|figures| (figures, 0)).into()
+    }
+}
+
+impl From<Result<(Figures, u32), Refusal>> for Answer {
+    fn from(result: Result<(Figures, u32), Refusal>) -> Answer {
+        match result {
+            Ok((figures, length)) => Answer::accepted(figures.usage, figures.capacity, figures.makespan, length),
+            Err(refusal) => Answer::refused(refusal.number, refusal.a, refusal.b),
+        }
+    }
+}

@@ -1,0 +1,34 @@
+//! The exports of the proved code, as in `include/grid.h`, with safe wrappers.
+//!
+//! Pointer and length are declared as two parameters. A slice as one parameter would not do for `out`: no register is
+//! left for its length, and the pointer would then go to the stack with it.
+
+use crate::Answer;
+
+extern "C" {
+    fn grid_check_plain(model: *const u8, model_length: usize, plan: *const u8, plan_length: usize) -> Answer;
+    fn grid_check_strict(model: *const u8, model_length: usize, plan: *const u8, plan_length: usize) -> Answer;
+    fn grid_run(
+        model: *const u8,
+        model_length: usize,
+        choice: *const u8,
+        choice_length: usize,
+        out: *mut u8,
+        out_length: usize,
+    ) -> Answer;
+}
+
+pub fn check_plain(model: &[u8], plan: &[u8]) -> Answer {
+    // SAFETY: each pointer comes with the length of its slice, and nothing is written.
+    unsafe { grid_check_plain(model.as_ptr(), model.len(), plan.as_ptr(), plan.len()) }
+}
+
+pub fn check_strict(model: &[u8], plan: &[u8]) -> Answer {
+    // SAFETY: each pointer comes with the length of its slice, and nothing is written.
+    unsafe { grid_check_strict(model.as_ptr(), model.len(), plan.as_ptr(), plan.len()) }
+}
+
+pub fn run(model: &[u8], choice: &[u8], out: &mut [u8]) -> Answer {
+    // SAFETY: each pointer comes with the length of its slice, and `out` is borrowed alone, so it overlaps neither input.
+    unsafe { grid_run(model.as_ptr(), model.len(), choice.as_ptr(), choice.len(), out.as_mut_ptr(), out.len()) }
+}
