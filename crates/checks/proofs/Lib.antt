@@ -1,10 +1,9 @@
 pub mod WaitLaws
 pub mod TickLaws
-pub mod TableLaws
 pub mod EfeTable
 pub mod MaskRow
 pub mod ActivityLaws
-pub mod SumLaws
+pub mod FigureLaws
 pub mod ListLaws
 pub mod GridLaws
 pub mod CheckLaws

@@ -1,11 +1,12 @@
 // "A pass answers usage (all ones), c times H, makespan".
 use crate::tables::end_of;
-use crate::tables::larger;
+use numbers::larger;
+use numbers::less;
+use numbers::smaller;
 use schedule::Activity;
 use schedule::Figures;
 use schedule::Thread;
 ghost use mathlib.Core.Path.{_≡_};
-ghost use Prim.Native.Nat.{_≤_, _<_, _-_, min};
 ghost use Rattle.schedule.specs.Bounded.{ones, total, greatest, least};
 ghost use Rattle.schedule.specs.Model.{model};
 ghost use Rattle.schedule.specs.Plan.{plan};
@@ -46,13 +47,6 @@ fn release_of(r: &[u8], j: Thread) -> u32
     row.release as u32
 }
 
-// The smaller of two numbers.
-fn smaller(x: u32, y: u32) -> u32
-    ensures { λ r. ⌜ r ≡ min x y ⌝ }
-{
-    if x < y { x } else { y }
-}
-
 // The least release over all threads, those without activities too.
 fn least_release(r: &[u8], n: u8) -> u32
     ensures { λ x. ⌜ x ≡ least n (plan (now (r .entry)) .release) ⌝ }
@@ -67,13 +61,6 @@ fn least_release(r: &[u8], n: u8) -> u32
         j += 1;
     }
     first
-}
-
-// A difference that stops at 0.
-fn less(x: u32, y: u32) -> u32
-    ensures { λ r. ⌜ r ≡ x - y ⌝ }
-{
-    if x < y { 0 } else { x - y }
 }
 
 // The figures of a plan.

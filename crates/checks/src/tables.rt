@@ -1,4 +1,5 @@
 // Tables of 32 numbers, by activity, that the rules are tried with: each is made once.
+use numbers::larger;
 use schedule::Activity;
 use schedule::Thread;
 ghost use mathlib.Core.Path.{_≡_};
@@ -43,13 +44,6 @@ fn count_of(r: &[u8], horizon: u16, a: u32) -> u32
         t += 1;
     }
     n
-}
-
-// The larger of two numbers.
-pub(crate) fn larger(x: u32, y: u32) -> u32
-    ensures { λ r. ⌜ r ≡ max x y ⌝ }
-{
-    if x < y { y } else { x }
 }
 
 // When a predecessor that is done at a tick lets go: with its delay if it is a temporal one, at once if by data.

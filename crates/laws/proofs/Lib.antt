@@ -3,6 +3,7 @@ pub mod Counting
 pub mod Words
 pub mod Lowest
 pub mod Sums
+pub mod Steps
 pub mod FieldLaws
 pub mod Parts
 pub mod PlanBytes

@@ -1,8 +1,9 @@
-// The paper's numbers of the refusals.
+// The paper's numbers of the refusals, and arithmetic that the figures need.
 use schedule::FormRefusal;
 use schedule::RuleRefusal;
 use schedule::RunRefusal;
 ghost use mathlib.Core.Path.{_≡_};
+ghost use Prim.Native.Nat.{_-_, max, min};
 ghost use Rattle.schedule.specs.Numbers.{formNumber, ruleNumber, runNumber};
 
 // "A refusal answers its number, A and B".
@@ -53,4 +54,25 @@ pub fn run_number(why: RunRefusal) -> u32
         RunRefusal::Owed => 42,
         RunRefusal::Late => 43,
     }
+}
+
+// The larger of two numbers.
+pub fn larger(x: u32, y: u32) -> u32
+    ensures { λ r. ⌜ r ≡ max x y ⌝ }
+{
+    if x <= y { y } else { x }
+}
+
+// The smaller of two numbers.
+pub fn smaller(x: u32, y: u32) -> u32
+    ensures { λ r. ⌜ r ≡ min x y ⌝ }
+{
+    if x <= y { x } else { y }
+}
+
+// A difference that stops at 0.
+pub fn less(x: u32, y: u32) -> u32
+    ensures { λ r. ⌜ r ≡ x - y ⌝ }
+{
+    if y <= x { x - y } else { 0 }
 }

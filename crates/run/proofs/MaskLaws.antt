@@ -11,13 +11,14 @@ use mathlib.Core.Path.{_≡_, refl, sym, subst, ap, ap₂, _∙_}
 use lib.Bits.{bitAnd, and-le-l}
 use lib.Dec.{T, eqb, leb, ltb}
 use lib.ListN.{length, getD, set, replicate, getD-replicate, length-set}
-use lib.Seq.{getD-set-same, getD-set-other}
+use lib.Seq.{getD-set-other}
 use lib.Pow.{pow-mono}
 use borrow.Author.Tests.{lt-ltb}
 use Rattle.schedule.specs.Bounded.{all, bit, wordOf, ones, _⇒_}
 use Rattle.schedule.specs.Model.{Model}
 use Rattle.schedule.specs.Machine.{State, owes, endedBy, ready, before, rank, selected, wordAt, initial, stateAt, machineWord}
-use Rattle.laws.proofs.Tests.{T-and, T-not, T-all, T-implies, T-leb, T-eqb, up-to}
+use Rattle.laws.proofs.Tests.{T-and, T-not, T-all, T-implies, T-leb, T-eqb}
+use Rattle.laws.proofs.Steps.{table-next}
 use Rattle.laws.proofs.Counting.{decT, T-ext, T-false, count-ext}
 use Rattle.laws.proofs.MachineLaws.{owes-next, end-next, getD-table}
 use Rattle.laws.proofs.Words.{wordOf-ext, wordOf-lt, bit-wordOf, bit-high, ones-count}
@@ -181,17 +182,6 @@ keeps-next m release duration t word owed ends owed′ ends′ e keeps next =
           ∙ sym (end-next m release duration t a l);
     })
 
--- ---- tables filled from the front
-
--- one entry more
-pub table-next : (l : List ℕ) (a v : ℕ) (f : ℕ → ℕ) → a < length l → ((i : ℕ) → i < a → getD l i 0 ≡ f i) → v ≡ f a
-    → (i : ℕ) → i < a + 1 → getD (set l a v) i 0 ≡ f i
-table-next l a v f h below e =
-    rw (add-one a)
-    (up-to (λ i. getD (set l a v) i 0 ≡ f i) a
-    (λ i k. getD-set-other l a i v 0 (omega arith) ∙ below i k)
-    (getD-set-same l a v 0 h ∙ e))
-
 -- ---- the tests
 
 -- an end that has come leaves t less it for the delay
@@ -228,13 +218,13 @@ pub stepping-next : (word t a less end : ℕ) (active : Bool) (owed ends owed′
 stepping-next word t a less end active owed ends owed′ ends′ l h e o f = record {
   done = record {
     sized = (length-set owed′ a less ∙ h .done .sized .0, length-set ends′ a end ∙ h .done .sized .1);
-    owed-less = table-next owed′ a less (λ i. getD owed i 0 - cond (bit word i) 1 0) (omega (arith, h .done .sized .0)) (h .done .owed-less)
-        (o ∙ ap₂ (λ (x : ℕ) (b : Bool). x - cond b 1 0) was e);
+    owed-less = table-next owed′ a less (λ i. getD owed i 0 - cond (bit word i) 1 0) (omega (arith, h .done .sized .0))
+        (o ∙ ap₂ (λ (x : ℕ) (b : Bool). x - cond b 1 0) was e) (h .done .owed-less);
     ends-next = table-next ends′ a end (λ i. cond (bit word i && eqb (getD owed i 0) 1) (t + 1) (getD ends i 0))
-        (omega (arith, h .done .sized .1)) (h .done .ends-next)
+        (omega (arith, h .done .sized .1))
         (f
         ∙ ap₂ (λ (b : Bool) (x : ℕ). cond (b && eqb x 1) (t + 1) (getD ends′ a 0)) e was
-        ∙ ap (λ (x : ℕ). cond (bit word a && eqb (getD owed a 0) 1) (t + 1) x) (h .ends-rest a (omega arith)));
+        ∙ ap (λ (x : ℕ). cond (bit word a && eqb (getD owed a 0) 1) (t + 1) x) (h .ends-rest a (omega arith))) (h .done .ends-next);
   };
   owed-rest = λ i k. getD-set-other owed′ a i less 0 (omega arith) ∙ h .owed-rest i (omega arith);
   ends-rest = λ i k. getD-set-other ends′ a i end 0 (omega arith) ∙ h .ends-rest i (omega arith);
@@ -249,5 +239,5 @@ filled-none f l h = record { sized = h; filled = λ a k. absurd (omega arith) }
 pub filled-next : (f : ℕ → ℕ) (a v : ℕ) (l : List ℕ) → a < 32 → Filled a f l → v ≡ f a → Filled (a + 1) f (set l a v)
 filled-next f a v l k h e = record {
   sized = length-set l a v ∙ h .sized;
-  filled = table-next l a v f (omega (arith, h .sized)) (h .filled) e;
+  filled = table-next l a v f (omega (arith, h .sized)) e (h .filled);
 }

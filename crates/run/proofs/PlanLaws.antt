@@ -1,6 +1,6 @@
 -- A plan's bytes written piece by piece, and the words of its grid read back.
 -- Assumes nothing.
-use Prim.Native.Nat.{ℕ, zero, suc, _+_, _-_, _*_, _^_, _≤_, _<_, max, min}
+use Prim.Native.Nat.{ℕ, zero, suc, _+_, _-_, _*_, _^_, _≤_, _<_}
 use native.Mathlib.Nat.{add-zero, lt-of-le-of-lt, mul-le-mul}
 use native.Mathlib.Numerals.{add-one}
 use native.Mathlib.Omega.{arith}
@@ -11,13 +11,13 @@ use lib.Dec.{T}
 use lib.ListN.{length, getD, take, drop, length-append, length-drop, drop-of-length-le}
 use lib.Seq.{take-all}
 use borrow.Rule.Slice.PartMut.{putMid, postOf}
-use Rattle.schedule.specs.Bounded.{rows, lowest, bit, ones, total, greatest, least}
+use Rattle.schedule.specs.Bounded.{rows, lowest, bit, ones, greatest, least}
 use Rattle.schedule.specs.Fields.{bytes}
 use Rattle.schedule.specs.Model.{Model}
 use Rattle.schedule.specs.Choice.{Choice}
 use Rattle.schedule.specs.Plan.{planLength}
 use Rattle.schedule.specs.Answers.{Figures}
-use Rattle.laws.proofs.Counting.{count-le}
+use Rattle.laws.proofs.Steps.{total-start, total-next}
 use Rattle.laws.proofs.Tests.{up-to}
 use Rattle.laws.proofs.Lowest.{lowest-is, lowest-unique}
 use Rattle.laws.proofs.FieldLaws.{length-bytes, length-rows}
@@ -172,36 +172,15 @@ front-says n m h release period start end start′ l l₁ l₂ l₃ room e p₁ 
     (p₃ ∙ ap (λ (b : List ℕ). put (9 + 4 * n) b l₂) (pairs-ext m start′ end start end e (λ _ _. refl)))
     ∙ ap (λ (b : List ℕ). put 0 b l) (append-assoc (headBytes n m h) (pairRows n release period) (pairRows m start end))
 
--- ---- sums and extremes, from one index to the next
-
-pub ones-le : (w : ℕ) → ones w ≤ 32
-unfolding ones
-ones-le w = count-le 32 (bit w)
+-- ---- the usage, from one tick to the next, and the starts
 
 pub usage-start : (out : List ℕ) (at : ℕ) → usageIn out at 0 ≡ 0
-unfolding usageIn total
-usage-start out at = refl
+unfolding usageIn
+usage-start out at = total-start (λ t. ones (wordIn out at t))
 
 pub usage-next : (out : List ℕ) (at t : ℕ) → usageIn out at t + ones (wordIn out at t) ≡ usageIn out at (t + 1)
-unfolding usageIn total
-usage-next out at t = ap (usageIn out at) (sym (add-one t))
-
-pub greatest-start : (f : ℕ → ℕ) → greatest 0 f ≡ 0
-unfolding greatest
-greatest-start f = refl
-
-pub greatest-next : (a : ℕ) (f : ℕ → ℕ) → max (greatest a f) (f a) ≡ greatest (a + 1) f
-unfolding greatest
-greatest-next a f = ap (λ (k : ℕ). greatest k f) (sym (add-one a))
-
-pub least-start : (f : ℕ → ℕ) → least 1 f ≡ f 0
-unfolding least
-least-start f = refl
-
-pub least-next : (j : ℕ) (f : ℕ → ℕ) → 1 ≤ j → min (least j f) (f j) ≡ least (j + 1) f
-unfolding least
-least-next zero f h = absurd (omega arith)
-least-next (suc j) f h = ap (λ (k : ℕ). least k f) (sym (add-one (suc j)))
+unfolding usageIn
+usage-next out at t = sym (total-next t (λ t. ones (wordIn out at t)))
 
 -- a start is no later than H
 pub start-le : (out : List ℕ) (at h a : ℕ) → startIn out at h a ≤ h

@@ -2,6 +2,9 @@
 use crate::plan;
 use crate::tables;
 use crate::tables::Column;
+use numbers::larger;
+use numbers::less;
+use numbers::smaller;
 use records::Pass;
 use schedule::Figures;
 use schedule::Place;
@@ -10,7 +13,7 @@ use schedule::RunRefusal;
 use schedule::Thread;
 ghost use mathlib.Core.Path.{_≡_};
 ghost use mathlib.Core.Bool.{not};
-ghost use Prim.Native.Nat.{_-_, _≤_, _<_, max, min};
+ghost use Prim.Native.Nat.{_≤_, _<_};
 ghost use lib.Dec.{eqb};
 ghost use lib.ListN.{getD};
 ghost use Rattle.schedule.specs.Bounded.{lowest, greatest, least};
@@ -106,24 +109,6 @@ fn usage(out: &[u8], at: usize, h: usize) -> u32
         t += 1;
     }
     sum
-}
-
-fn larger(x: u32, y: u32) -> u32
-    ensures { λ r. ⌜ r ≡ max x y ⌝ }
-{
-    if x <= y { y } else { x }
-}
-
-fn smaller(x: u32, y: u32) -> u32
-    ensures { λ r. ⌜ r ≡ min x y ⌝ }
-{
-    if x <= y { x } else { y }
-}
-
-fn less(x: u32, y: u32) -> u32
-    ensures { λ r. ⌜ r ≡ x - y ⌝ }
-{
-    if y <= x { x - y } else { 0 }
 }
 
 fn greatest_end(n: usize, ends: &[u32; 32]) -> u32

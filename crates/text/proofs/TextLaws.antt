@@ -84,14 +84,6 @@ pub length-text : (s : List ℕ) (t : ℕ) → length (tickText s t) ≡ tickLen
 unfolding tickText
 length-text s t = length-tick t (wordOf s t)
 
-pub total-none : total 0 tickLength ≡ 0
-unfolding total
-total-none = refl
-
-pub total-next : (t : ℕ) → total (t + 1) tickLength ≡ total t tickLength + tickLength t
-unfolding total
-total-next t = rw add-one
-
 pub length-ticks : (s : List ℕ) (h : ℕ) → length (rows h (tickText s)) ≡ total h tickLength
 unfolding total rows
 length-ticks s zero = refl

@@ -4,7 +4,7 @@ use Rattle.schedule.specs.Model.{model}
 use Rattle.schedule.specs.Plan.{plan}
 use Rattle.schedule.specs.Checks.{rule28, rule29}
 use Rattle.checks.specs.Rules.{plainTicks}
-use Rattle.checks.proofs.TableLaws.{zeros-at}
+use Rattle.laws.proofs.Steps.{zeros-at}
 use Rattle.checks.proofs.ListLaws.{stops, goes-on, last-rule}
 use borrow.Author.Needs.{needs}
 use Rattle.checks.proofs.plain_ticks.Statement.{statement}

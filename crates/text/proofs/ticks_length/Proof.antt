@@ -7,7 +7,7 @@ use borrow.Author.Needs.{needs}
 use mathlib.Core.Path.{_≡_, ap, _∙_}
 use Rattle.schedule.specs.Bounded.{total}
 use Rattle.text.specs.Appended.{tickLength}
-use Rattle.text.proofs.TextLaws.{total-none, total-next}
+use Rattle.laws.proofs.Steps.{total-start, total-next}
 use Rattle.text.proofs.ticks_length.Statement.{statement}
 use Rattle.text.proofs.ticks_length.Tie as tie
 
@@ -18,7 +18,7 @@ abbrev μ-loop : tie.MeasureT-loop
 μ-loop h n₀ t₀ n t = h - t
 
 loop-holds : tie.Need-loop-holds Inv-loop μ-loop
-loop-holds c = omega (arith, total-none)
+loop-holds c = omega (arith, total-start tickLength)
 
 decimal-length-requires : tie.Need-decimal-length-requires Inv-loop μ-loop
 decimal-length-requires c κs = search needs
@@ -36,7 +36,7 @@ loop-less : tie.Need-loop-less Inv-loop μ-loop
 loop-less c = omega arith
 
 loop-again : tie.Need-loop-again Inv-loop μ-loop
-loop-again c = omega (arith, total-next (c .before .before .loop .t))
+loop-again c = omega (arith, total-next (c .before .before .loop .t) tickLength)
 
 returns : tie.Need-returns Inv-loop μ-loop
 returns c =

@@ -7,7 +7,7 @@ use borrow.Author.Tests.{not-true, not-false}
 use lib.Dec.{leb, ltb}
 use Rattle.schedule.specs.Bounded.{all, bit, _⇒_}
 use Rattle.schedule.specs.Plan.{plan, active}
-use Rattle.checks.proofs.TableLaws.{all-start, all-next, all-fails}
+use Rattle.laws.proofs.Steps.{all-start, all-next, all-fails}
 use borrow.Author.Needs.{needs}
 use Rattle.checks.proofs.activity.none_outside.Statement.{statement}
 use Rattle.checks.proofs.activity.none_outside.Tie as tie

@@ -9,7 +9,7 @@ use Rattle.records.specs.declared.model.Sizes.{Sizes}
 use Rattle.records.specs.Rows.{sizesOf}
 use borrow.Author.Needs.{needs}
 use Rattle.checks.proofs.EfeTable.{horizon-lt}
-use Rattle.checks.proofs.SumLaws.{product-fits, cores-lt}
+use Rattle.checks.proofs.FigureLaws.{product-fits, cores-lt}
 use Rattle.checks.proofs.figures.figures_of.Statement.{statement}
 use Rattle.checks.proofs.figures.figures_of.Tie as tie
 

@@ -4,7 +4,7 @@ use native.Mathlib.Omega.{arith}
 use mathlib.Core.Path.{_≡_, sym, ap, ap₂, _∙_}
 use Rattle.schedule.specs.Bounded.{greatest}
 use Rattle.schedule.specs.Plan.{plan}
-use Rattle.checks.proofs.TableLaws.{greatest-next, greatest-start}
+use Rattle.laws.proofs.Steps.{greatest-next, greatest-start}
 use borrow.Author.Needs.{needs}
 use Rattle.checks.proofs.figures.latest_end.Statement.{statement}
 use Rattle.checks.proofs.figures.latest_end.Tie as tie

@@ -4,7 +4,7 @@ use native.Mathlib.Omega.{arith}
 use mathlib.Core.Path.{_≡_, sym, ap, ap₂, _∙_}
 use Rattle.schedule.specs.Bounded.{least}
 use Rattle.schedule.specs.Plan.{plan}
-use Rattle.checks.proofs.SumLaws.{least-next, least-start, least-none}
+use Rattle.laws.proofs.Steps.{least-next, least-start, least-none}
 use borrow.Author.Needs.{needs}
 use Rattle.checks.proofs.figures.least_release.Statement.{statement}
 use Rattle.checks.proofs.figures.least_release.Tie as tie

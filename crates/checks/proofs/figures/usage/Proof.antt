@@ -4,7 +4,7 @@ use native.Mathlib.Omega.{arith}
 use mathlib.Core.Path.{_≡_, sym, ap, ap₂, _∙_}
 use Rattle.schedule.specs.Bounded.{ones, total}
 use Rattle.schedule.specs.Plan.{plan}
-use Rattle.checks.proofs.SumLaws.{total-next, total-start, ones-few}
+use Rattle.laws.proofs.Steps.{total-next, total-start, ones-few}
 use borrow.Author.Needs.{needs}
 use Rattle.checks.proofs.figures.usage.Statement.{statement}
 use Rattle.checks.proofs.figures.usage.Tie as tie

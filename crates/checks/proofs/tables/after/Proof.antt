@@ -9,7 +9,7 @@ use Rattle.schedule.specs.Model.{model}
 use Rattle.records.specs.declared.model.ActivityRow.{ActivityRow}
 use Rattle.records.specs.Rows.{activityRowOf}
 use Rattle.checks.specs.Tables as tables
-use Rattle.checks.proofs.TableLaws.{greatest-next, greatest-start}
+use Rattle.laws.proofs.Steps.{greatest-next, greatest-start}
 use borrow.Author.Needs.{needs}
 use Rattle.checks.proofs.tables.after.Statement.{statement}
 use Rattle.checks.proofs.tables.after.Tie as tie

@@ -6,7 +6,7 @@ use mathlib.Core.Path.{_≡_, sym, ap, ap₂, _∙_}
 use Rattle.schedule.specs.Bounded.{bit, count}
 use Rattle.schedule.specs.Plan.{plan, active}
 use Rattle.laws.proofs.Counting.{count-le}
-use Rattle.checks.proofs.TableLaws.{count-next, count-start}
+use Rattle.laws.proofs.Steps.{count-next, count-start}
 use borrow.Author.Needs.{needs}
 use Rattle.checks.proofs.tables.count_of.Statement.{statement}
 use Rattle.checks.proofs.tables.count_of.Tie as tie

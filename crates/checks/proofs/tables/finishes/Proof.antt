@@ -9,7 +9,7 @@ use Rattle.schedule.specs.Plan.{plan}
 use Rattle.records.specs.declared.model.Sizes.{Sizes}
 use Rattle.records.specs.Rows.{sizesOf}
 use Rattle.checks.specs.Tables.{finishOf}
-use Rattle.checks.proofs.TableLaws.{table-next, zeros-at}
+use Rattle.laws.proofs.Steps.{table-next, zeros-at}
 use Rattle.checks.proofs.EfeTable.{finish-next, finish-bound, set-bound, delay-lt, release-lt, horizon-lt}
 use borrow.Author.Needs.{needs}
 use Rattle.checks.proofs.tables.finishes.Statement.{statement}

@@ -7,7 +7,7 @@ use Rattle.schedule.specs.Model.{model}
 use Rattle.records.specs.declared.model.Sizes.{Sizes}
 use Rattle.records.specs.Rows.{sizesOf}
 use Rattle.checks.specs.Tables.{after, fromOf}
-use Rattle.checks.proofs.TableLaws.{table-next}
+use Rattle.laws.proofs.Steps.{table-next}
 use borrow.Author.Needs.{needs}
 use Rattle.checks.proofs.tables.froms.Statement.{statement}
 use Rattle.checks.proofs.tables.froms.Tie as tie

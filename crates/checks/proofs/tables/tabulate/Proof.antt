@@ -9,7 +9,7 @@ use Rattle.schedule.specs.Plan.{plan}
 use Rattle.records.specs.declared.model.Sizes.{Sizes}
 use Rattle.records.specs.Rows.{sizesOf}
 use Rattle.checks.specs.Tables.{entryOf}
-use Rattle.checks.proofs.TableLaws.{table-next}
+use Rattle.laws.proofs.Steps.{table-next}
 use Rattle.checks.proofs.tables.tabulate.Statement.{statement}
 use Rattle.checks.proofs.tables.tabulate.Tie as tie
 

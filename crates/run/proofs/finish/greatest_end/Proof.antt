@@ -6,7 +6,7 @@ use mathlib.Core.Path.{_≡_, sym, ap, _∙_}
 use lib.ListN.{getD}
 use borrow.Author.Needs.{needs}
 use Rattle.schedule.specs.Bounded.{greatest}
-use Rattle.run.proofs.PlanLaws.{greatest-start, greatest-next}
+use Rattle.laws.proofs.Steps.{greatest-start, greatest-next}
 use Rattle.run.proofs.finish.greatest_end.Statement.{statement}
 use Rattle.run.proofs.finish.greatest_end.Tie as tie
 
@@ -37,7 +37,7 @@ loop-less c = omega arith
 loop-again : tie.Need-loop-again Inv-loop μ-loop
 loop-again c =
     let l = c .before .before .before .loop in
-    (omega arith, c .larger .ensures ∙ ap (λ (b : ℕ). max b (getD (c .before .before .before .before .args .ends .now) (l .a) 0)) (l .inv .1) ∙ greatest-next (l .a) _)
+    (omega arith, c .larger .ensures ∙ ap (λ (b : ℕ). max b (getD (c .before .before .before .before .args .ends .now) (l .a) 0)) (l .inv .1) ∙ sym (greatest-next (l .a) _))
 
 returns : tie.Need-returns Inv-loop μ-loop
 returns c =

@@ -6,7 +6,7 @@ use mathlib.Core.Path.{_≡_, sym, ap, ap₂, _∙_}
 use borrow.Author.Needs.{needs}
 use Rattle.schedule.specs.Bounded.{least}
 use Rattle.schedule.specs.Choice.{choice}
-use Rattle.run.proofs.PlanLaws.{least-start, least-next}
+use Rattle.laws.proofs.Steps.{least-start, least-next}
 use Rattle.run.proofs.finish.least_release.Statement.{statement}
 use Rattle.run.proofs.finish.least_release.Tie as tie
 
@@ -43,7 +43,7 @@ loop-again c =
       omega arith,
       c .smaller .ensures
           ∙ ap₂ min (l .inv .2) (c .before .release2 .ensures)
-          ∙ least-next (l .j) f (omega arith),
+          ∙ sym (least-next (l .j) f (omega arith)),
     )
 
 returns : tie.Need-returns Inv-loop μ-loop

@@ -6,7 +6,8 @@ use mathlib.Core.Path.{_≡_, sym, ap, ap₂, _∙_}
 use borrow.Author.Needs.{needs}
 use Rattle.schedule.specs.Bounded.{ones}
 use Rattle.run.specs.Front.{usageIn}
-use Rattle.run.proofs.PlanLaws.{ones-le, usage-start, usage-next}
+use Rattle.run.proofs.PlanLaws.{usage-start, usage-next}
+use Rattle.laws.proofs.Steps.{ones-few}
 use Rattle.run.proofs.finish.usage.Statement.{statement}
 use Rattle.run.proofs.finish.usage.Tie as tie
 
@@ -32,7 +33,7 @@ ones-requires : tie.Need-ones-requires Inv-loop μ-loop
 ones-requires c κs = search needs
 
 add-sum : tie.Need-add-sum Inv-loop μ-loop
-add-sum c = omega (arith, c .ones .ensures, ones-le (c .before .be32 .result))
+add-sum c = omega (arith, c .ones .ensures, ones-few (c .before .be32 .result))
 
 add-t : tie.Need-add-t Inv-loop μ-loop
 add-t c = omega arith
@@ -46,7 +47,7 @@ loop-again c =
     let l = c .before .before .before .loop in
     let x = c5 .args in (
       omega arith,
-      omega (arith, c .ones .ensures, ones-le (c .before .be32 .result)),
+      omega (arith, c .ones .ensures, ones-few (c .before .be32 .result)),
       ap₂ _+_ (l .inv .2) (c .ones .ensures ∙ ap ones (c .before .be32 .ensures)) ∙ usage-next (x .out .now) (x .at) (l .t),
     )
 
