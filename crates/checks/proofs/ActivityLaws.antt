@@ -1,60 +1,71 @@
 -- What the code of rules 21 to 27 answers at an activity is the mask of the rule's broken places there.
 -- Assumes nothing.
-use Prim.Native.Nat.{ℕ, _+_, _≤_, _<_}
+use Prim.Native.Nat.{ℕ, _+_, _-_, _≤_, _<_}
+use native.Mathlib.Decide.{decLt}
 use native.Mathlib.Nat.{add-zero}
 use native.Mathlib.Omega.{arith}
-use mathlib.Core.Bool.{Bool, true, false, not, cond}
+use mathlib.Core.Bool.{Bool, true, false, _&&_, not, cond, Bool·not-not}
 use mathlib.Core.List.{List}
 use mathlib.Core.Path.{_≡_, refl, sym, ap, ap₂, _∙_}
-use lib.Dec.{T, leb}
+use lib.Dec.{T, leb, ltb}
+use lib.ListN.{getD}
+use borrow.Author.Tests.{lt-leb, le-leb, lt-ltb, le-ltb}
 use Rattle.schedule.specs.Bounded.{bit, wordOf, _⇒_}
 use Rattle.schedule.specs.Fields.{Bytes}
 use Rattle.schedule.specs.Rule.{Rule}
-use Rattle.schedule.specs.Model.{Model, within}
-use Rattle.schedule.specs.Plan.{Plan, plan}
+use Rattle.schedule.specs.Model.{Model, within, temporally, byData}
+use Rattle.schedule.specs.Plan.{Plan, plan, active}
 use Rattle.schedule.specs.Numbers.{ruleNumber}
-use Rattle.schedule.specs.Checks.{countOf, efe, deadlineRule, rule21, rule22, rule23, rule24, rule25, rule26, rule27}
+use Rattle.schedule.specs.Checks.{countOf, efe, window, deadlineRule, rule21, rule22, rule23, rule24, rule25, rule26, rule27}
 use Rattle.laws.proofs.Tests.{T-leb}
 use Rattle.laws.proofs.Counting.{T-ext}
 use Rattle.laws.proofs.FieldLaws.{field-lt}
 use Rattle.laws.proofs.Words.{wordOf-ext}
 use Rattle.laws.proofs.RowLaws.{brokenMask}
 use Rattle.checks.specs.declared.activity.ActivityRule.{ActivityRule}
-use Rattle.checks.specs.Tables.{finishOf}
+use Rattle.checks.specs.Tables.{Holds, finishOf}
 use Rattle.checks.proofs.MaskRow.{one-column}
-use Rattle.checks.specs.Rules.{activityRule, activityName, precedes, delayIf}
+use Rattle.checks.specs.Rules.{activityRule, activityName, earlyFrom, noneOutside}
 
--- the predecessor mask that is read has the predecessors' bits
-pub precedes-bit : (m : Model) (temporal : Bool) (b a : ℕ)
-    → bit (cond temporal (m .temporal-mask a) (m .data-mask a)) b ≡ precedes m temporal b a
-precedes-bit m true b a = refl
-precedes-bit m false b a = refl
+-- a start too early after a predecessor: before its end, or before its delay has passed since
+pub early-by-end : (start end delay : ℕ) → start < end → true ≡ not (leb (end + delay) start)
+early-by-end start end delay h = sym (ap not (lt-leb (end + delay) start (omega arith)))
 
--- one bit more of the mask of predecessors that a starts too early after
-pub early-next : (m : Model) (p : Plan) (temporal : Bool) (a b : ℕ) (yes? has? : Bool) (start end delay preceding : ℕ)
-    → yes? ≡ not (has? ⇒ leb (end + delay) start) → has? ≡ bit preceding b
-    → preceding ≡ cond temporal (m .temporal-mask a) (m .data-mask a) → start ≡ p .start a → end ≡ p .end b
-    → delay ≡ delayIf m temporal b
-    → yes? ≡ not (precedes m temporal b a ⇒ leb (p .end b + delayIf m temporal b) (p .start a))
-early-next m p temporal a b yes? has? start end delay preceding e h k s n d =
-    e
-    ∙ ap (λ (t : Bool). not (t ⇒ leb (end + delay) start))
-    (h ∙ ap (λ (w : ℕ). bit w b) k ∙ precedes-bit m temporal b a)
-    ∙ ap₂ (λ (x y : ℕ). not (precedes m temporal b a ⇒ leb x y)) (ap₂ _+_ n d) s
+pub early-by-delay : (start end delay : ℕ) → end ≤ start → ltb (start - end) delay ≡ not (leb (end + delay) start)
+early-by-delay start end delay h =
+    elim (decLt (start - end) delay) [
+      | yes l ↦ lt-ltb (start - end) delay l ∙ sym (ap not (lt-leb (end + delay) start (omega arith)))
+      | no l ↦ le-ltb (start - end) delay (omega arith) ∙ sym (ap not (le-leb (end + delay) start (omega arith)))
+    ]
 
--- 25 and 26: the predecessors at which they are broken
-pub temporal-mask : (m : Model) (p : Plan) (a : ℕ)
-    → wordOf (m .activities) (λ b. not (precedes m true b a ⇒ leb (p .end b + delayIf m true b) (p .start a)))
-    ≡ brokenMask (rule25 m p) a
-unfolding brokenMask rule25
-temporal-mask m p a = refl
+-- 21, where only "none outside" is left to try
+pub window-outside : (m : Model) (p : Plan) (a : ℕ) (stray : Bool) → ltb (p .start a) (p .end a) ≡ true
+    → leb (p .end a) (m .horizon) ≡ true → active p (p .start a) a ≡ true → active p (p .end a - 1) a ≡ true
+    → stray ≡ not (noneOutside m p a) → not stray ≡ window m p a
+unfolding window noneOutside
+window-outside m p a stray ordered inside first last e =
+    ap not e ∙ Bool·not-not _ ∙ sym (ap₂ (λ (x y : Bool). x && (y && noneOutside m p a)) (ap₂ _&&_ ordered inside) (ap₂ _&&_ first last))
 
-pub data-mask : (m : Model) (p : Plan) (a : ℕ)
-    → wordOf (m .activities) (λ b. not (precedes m false b a ⇒ leb (p .end b + delayIf m false b) (p .start a)))
-    ≡ brokenMask (rule26 m p) a
-unfolding brokenMask rule26
-data-mask m p a = wordOf-ext (m .activities) _ _ (λ b _.
-    ap (λ (x : ℕ). not (precedes m false b a ⇒ leb x (p .start a))) (add-zero (p .end b)))
+-- 25 and 26: the predecessors at which they are broken, from the tables
+pub temporal-mask : (m : Model) (p : Plan) (ends delays : List ℕ) (a preceding start n : ℕ) → preceding ≡ m .temporal-mask a
+    → start ≡ p .start a → n ≡ m .activities → Holds m ends (p .end) → Holds m delays (m .delay)
+    → earlyFrom preceding start n ends delays ≡ brokenMask (rule25 m p) a
+unfolding brokenMask rule25 earlyFrom
+temporal-mask m p ends delays a preceding start n e s k h d =
+    ap (λ (i : ℕ). wordOf i (λ b. not (bit preceding b ⇒ leb (getD ends b 0 + getD delays b 0) start))) k
+    ∙ wordOf-ext (m .activities) _ _ (λ b l.
+    ap₂ (λ (x y : ℕ). not (bit x b ⇒ leb y start)) e (ap₂ _+_ (h b l) (d b l))
+    ∙ ap (λ (x : ℕ). not (temporally m b a ⇒ leb (p .end b + m .delay b) x)) s)
+
+pub data-mask : (m : Model) (p : Plan) (ends none : List ℕ) (a preceding start n : ℕ) → preceding ≡ m .data-mask a
+    → start ≡ p .start a → n ≡ m .activities → Holds m ends (p .end) → ((b : ℕ) → getD none b 0 ≡ 0)
+    → earlyFrom preceding start n ends none ≡ brokenMask (rule26 m p) a
+unfolding brokenMask rule26 earlyFrom
+data-mask m p ends none a preceding start n e s k h z =
+    ap (λ (i : ℕ). wordOf i (λ b. not (bit preceding b ⇒ leb (getD ends b 0 + getD none b 0) start))) k
+    ∙ wordOf-ext (m .activities) _ _ (λ b l.
+    ap₂ (λ (x y : ℕ). not (bit x b ⇒ leb y start)) e (ap₂ _+_ (h b l) (z b) ∙ add-zero (p .end b))
+    ∙ ap (λ (x : ℕ). not (byData m b a ⇒ leb (p .end b) x)) s)
 
 -- 27 by the sum of efe and count
 pub eligible-sum : (e k s : ℕ) → leb (e + k) (s + k) ≡ leb e s

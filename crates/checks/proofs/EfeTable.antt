@@ -9,7 +9,7 @@ use mathlib.Core.Path.{_≡_, refl, sym, subst, ap, ap₂, _∙_}
 use lib.Dec.{T}
 use lib.ListN.{length, getD, set}
 use lib.Seq.{getD-set-same, getD-set-other, set-out}
-use Rattle.schedule.specs.Bounded.{greatest}
+use Rattle.schedule.specs.Bounded.{bit, greatest}
 use Rattle.schedule.specs.Fields.{Bytes}
 use Rattle.schedule.specs.Model.{Model, model, temporally, byData}
 use Rattle.schedule.specs.Plan.{Plan, plan, active}
@@ -39,6 +39,14 @@ unfolding after
 after-parts m n done a =
     greatest-ext n _ _ (λ b _. term (temporally m b a) (byData m b a) (done b) (m .delay b))
     ∙ split n (λ b. cond (temporally m b a) (done b + m .delay b) 0) (λ b. cond (byData m b a) (done b) 0)
+
+-- one predecessor's term, as the code reads it
+pub term-reads : (temporal by-data b done delay delay′ free : ℕ) (t d : Bool) → free ≡ cond t (done + delay) (cond d done 0)
+    → t ≡ bit temporal b → d ≡ bit by-data b → delay ≡ delay′
+    → free ≡ cond (bit temporal b) (done + delay′) (cond (bit by-data b) done 0)
+term-reads temporal by-data b done delay delay′ free t d e ht hd k =
+    e ∙ ap (λ (x : Bool). cond x (done + delay) (cond d done 0)) ht
+    ∙ ap₂ (λ (y : ℕ) (x : Bool). cond (bit temporal b) (done + y) (cond x done 0)) k hd
 
 -- it depends on the predecessors alone, which have lower numbers
 pub after-ext : (m : Model) → Ordered m → (done other : ℕ → ℕ) (a : ℕ) → a < m .activities

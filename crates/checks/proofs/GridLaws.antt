@@ -2,79 +2,69 @@
 -- Assumes nothing.
 use Prim.Native.Nat.{ℕ, _+_, _-_, _≤_, _<_, max}
 use native.Mathlib.Omega.{arith}
-use mathlib.Core.Bool.{Bool, true, false, cond}
+use mathlib.Core.Bool.{Bool, true, false, _&&_, cond}
 use mathlib.Core.List.{List, _++_}
-use mathlib.Core.Option.{Option, some, none}
 use mathlib.Core.Path.{_≡_, refl, sym, subst, ap, ap₂, _∙_}
+use lib.Dec.{eqb, ltb}
 use lib.ListN.{getD}
+use Rattle.schedule.specs.Bounded.{wordOf}
 use Rattle.schedule.specs.Rule.{Rule, firstBreak}
-use Rattle.schedule.specs.Model.{Model, temporally, byData}
+use Rattle.schedule.specs.Model.{Model, priorityOf, temporally, byData}
 use Rattle.schedule.specs.Plan.{Plan}
 use Rattle.schedule.specs.Checks.{countOf, efe, plainRules, strictRules}
 use Rattle.schedule.specs.declared.Refusal.{Refusal}
 use Rattle.laws.proofs.Sums.{greatest-ext}
+use Rattle.laws.proofs.Words.{wordOf-ext}
 use Rattle.records.specs.declared.Pass.{Pass}
 use Rattle.records.specs.Reads.{passNumbers}
-use Rattle.checks.specs.Tables.{Holds, after, waitsFrom, finishOf, fromOf, Timed}
-use Rattle.checks.specs.Rules.{activityRules, plainTicks, strictTicks, gridRules}
+use Rattle.checks.specs.Tables.{Holds, HoldsOnly, after, waitsFrom, finishOf, fromOf, outranksFrom, rankMask, Timed}
+use Rattle.checks.specs.Rules.{activityRules, plainTicks, strictTicks, tickRules, gridRules}
 use Rattle.checks.proofs.EfeTable.{from-after}
 use Rattle.checks.proofs.ListLaws.{list-stops, list-goes-on}
 
--- the rules of ticks of the plain or the strict check
-abbrev rest : Bool → Model → Plan → List Rule
-rest true m p = plainTicks m p ++ strictTicks m p
-rest false m p = plainTicks m p
-
-grid-split : (strict : Bool) (m : Model) (p : Plan) → activityRules m p ++ rest strict m p ≡ gridRules strict m p
+grid-split : (strict : Bool) (m : Model) (p : Plan) → activityRules m p ++ tickRules strict m p ≡ gridRules strict m p
 unfolding activityRules plainTicks strictTicks plainRules strictRules
 grid-split true m p = refl
 grid-split false m p = refl
 
 module _ (m : Model) (p : Plan) where
-  -- an activity's rule is broken
+  -- a rule of activities is broken
   pub activities-stop : (strict : Bool) (a : Pass) (x : Refusal) → a ≡ Pass.Refused x
       → passNumbers a ≡ firstBreak (activityRules m p) → passNumbers a ≡ firstBreak (gridRules strict m p)
   activities-stop strict a x told e =
-      list-stops a x (activityRules m p) (rest strict m p) told e ∙ ap firstBreak (grid-split strict m p)
+      list-stops a x (activityRules m p) (tickRules strict m p) told e ∙ ap firstBreak (grid-split strict m p)
 
-  go : (strict : Bool) (a : Pass) (q : Option Rattle.schedule.specs.Rule.Refusal) → a ≡ Pass.Holds
-      → passNumbers a ≡ firstBreak (activityRules m p) → q ≡ firstBreak (rest strict m p)
-      → q ≡ firstBreak (gridRules strict m p)
-  go strict a q told e h =
-      list-goes-on a (activityRules m p) (rest strict m p) q told e h ∙ ap firstBreak (grid-split strict m p)
+  -- the rules of ticks decide
+  pub ticks-decide : (strict : Bool) (a t : Pass) → a ≡ Pass.Holds → passNumbers a ≡ firstBreak (activityRules m p)
+      → passNumbers t ≡ firstBreak (tickRules strict m p) → passNumbers t ≡ firstBreak (gridRules strict m p)
+  ticks-decide strict a t told e h =
+      list-goes-on a (activityRules m p) (tickRules strict m p) (passNumbers t) told e h ∙ ap firstBreak (grid-split strict m p)
 
   -- a tick's rule is broken, before 30
-  pub ticks-stop : (strict : Bool) (a t : Pass) (x : Refusal) → a ≡ Pass.Holds
-      → passNumbers a ≡ firstBreak (activityRules m p) → t ≡ Pass.Refused x
-      → passNumbers t ≡ firstBreak (plainTicks m p) → passNumbers t ≡ firstBreak (gridRules strict m p)
-  ticks-stop strict a t x told e stopped f = go strict a (passNumbers t) told e (at strict)
-    where
-      at : (b : Bool) → passNumbers t ≡ firstBreak (rest b m p)
-      at true = list-stops t x (plainTicks m p) (strictTicks m p) stopped f
-      at false = f
+  pub plain-stops : (strict : Bool) (t : Pass) (x : Refusal) → t ≡ Pass.Refused x
+      → passNumbers t ≡ firstBreak (plainTicks m p) → passNumbers t ≡ firstBreak (tickRules strict m p)
+  plain-stops true t x told e = list-stops t x (plainTicks m p) (strictTicks m p) told e
+  plain-stops false t x told e = e
 
-  -- the plain check holds
-  pub plain-holds : (strict : Bool) (a t : Pass) → strict ≡ false → a ≡ Pass.Holds
-      → passNumbers a ≡ firstBreak (activityRules m p) → t ≡ Pass.Holds → passNumbers t ≡ firstBreak (plainTicks m p)
-      → passNumbers Pass.Holds ≡ firstBreak (gridRules strict m p)
-  plain-holds strict a t no-more told e held f =
-      subst (λ (b : Bool). passNumbers Pass.Holds ≡ firstBreak (gridRules b m p)) (sym no-more)
-      (go false a none told e (sym (ap passNumbers held) ∙ f))
+  -- the plain check ends, and the strict check goes on
+  pub plain-holds : (strict : Bool) (t : Pass) → strict ≡ false → t ≡ Pass.Holds
+      → passNumbers t ≡ firstBreak (plainTicks m p) → passNumbers Pass.Holds ≡ firstBreak (tickRules strict m p)
+  plain-holds strict t no-more told e =
+      subst (λ (b : Bool). passNumbers Pass.Holds ≡ firstBreak (tickRules b m p)) (sym no-more) (sym (ap passNumbers told) ∙ e)
 
-  -- the strict check goes on
-  pub strict-ends : (strict : Bool) (a t u : Pass) → strict ≡ true → a ≡ Pass.Holds
-      → passNumbers a ≡ firstBreak (activityRules m p) → t ≡ Pass.Holds → passNumbers t ≡ firstBreak (plainTicks m p)
-      → passNumbers u ≡ firstBreak (strictTicks m p) → passNumbers u ≡ firstBreak (gridRules strict m p)
-  strict-ends strict a t u more told e held f h =
-      subst (λ (b : Bool). passNumbers u ≡ firstBreak (gridRules b m p)) (sym more)
-      (go true a (passNumbers u) told e (list-goes-on t (plainTicks m p) (strictTicks m p) (passNumbers u) held f h))
+  pub strict-decides : (strict : Bool) (t u : Pass) → strict ≡ true → t ≡ Pass.Holds
+      → passNumbers t ≡ firstBreak (plainTicks m p) → passNumbers u ≡ firstBreak (strictTicks m p)
+      → passNumbers u ≡ firstBreak (tickRules strict m p)
+  strict-decides strict t u more told e h =
+      subst (λ (b : Bool). passNumbers u ≡ firstBreak (tickRules b m p)) (sym more)
+      (list-goes-on t (plainTicks m p) (strictTicks m p) (passNumbers u) told e h)
 
   -- the tables of ticks
-  pub timed : (counts finishes ends froms : List ℕ) → m .activities ≤ 32 → Holds m counts (countOf m p)
+  pub timed : (counts finishes ends froms priorities : List ℕ) → m .activities ≤ 32 → Holds m counts (countOf m p)
       → Holds m finishes (finishOf m p) → Holds m ends (p .end) → Holds m froms (fromOf m finishes counts ends)
-      → Timed m p froms ends
+      → Holds m priorities (priorityOf m) → Timed m p froms ends priorities
   unfolding after
-  timed counts finishes ends froms few hc hf he h = record {
+  timed counts finishes ends froms priorities few hc hf he h hp = record {
     few = few;
     from-ticks = λ a l.
         h a l
@@ -83,4 +73,18 @@ module _ (m : Model) (p : Plan) where
         ap (λ (x : ℕ). cond (temporally m b a) (x + m .delay b) (cond (byData m b a) x 0)) (he b lb)))
         ∙ from-after m p a;
     end-ticks = he;
+    ranks = hp;
+  }
+
+  -- the masks by rank, from the priorities
+  pub ranked : (level : Bool) (n : ℕ) (priorities masks : List ℕ) → n ≡ m .activities → Holds m priorities (priorityOf m)
+      → HoldsOnly n masks (λ a. wordOf n (outranksFrom priorities level a)) → HoldsOnly (m .activities) masks (rankMask m level)
+  unfolding rankMask
+  ranked level n priorities masks e h held = record {
+    below = λ a l.
+        held .below a (omega (arith, e))
+        ∙ ap (λ (k : ℕ). wordOf k (outranksFrom priorities level a)) e
+        ∙ wordOf-ext (m .activities) _ _ (λ b lb.
+        ap₂ (λ (x y : ℕ). cond level (eqb x y && ltb b a) (ltb y x)) (h b lb) (h a l));
+    beyond = λ a l. held .beyond a (omega (arith, e));
   }

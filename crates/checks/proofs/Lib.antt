@@ -1,3 +1,5 @@
+pub mod WordLoops
+pub mod WindowLaws
 pub mod WaitLaws
 pub mod TickLaws
 pub mod EfeTable

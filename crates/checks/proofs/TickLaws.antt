@@ -1,73 +1,120 @@
 -- What the tables say of a tick: the mask that `breaking` answers is the mask of the rule's broken places.
 -- Assumes nothing.
-use Prim.Native.Nat.{ℕ, _≤_, _<_}
+use Prim.Native.Nat.{ℕ, _^_, _≤_, _<_}
+use native.Mathlib.Decide.{decLt}
+use native.Mathlib.Nat.{lt-of-lt-of-le}
 use native.Mathlib.Omega.{arith}
-use mathlib.Core.Bool.{Bool, _&&_, not, cond}
+use mathlib.Core.Bool.{Bool, true, false, _&&_, not, cond, and-false}
 use mathlib.Core.List.{List}
-use mathlib.Core.Option.{some, none}
-use mathlib.Core.Path.{_≡_, refl, sym, ap, ap₂, _∙_}
-use lib.Bits.{bitAnd}
-use lib.Dec.{leb, ltb, eqb}
+use mathlib.Core.Path.{_≡_, refl, sym, subst, ap, ap₂, _∙_}
+use lib.Bits.{bitAnd, and-zero-l}
+use lib.Dec.{T, leb, ltb, eqb}
 use lib.ListN.{getD}
-use Rattle.schedule.specs.Bounded.{ones, bit, wordOf, lowest}
+use lib.Pow.{pow-mono}
+use Rattle.schedule.specs.Bounded.{all, ones, bit, wordOf}
 use Rattle.schedule.specs.Model.{Model}
 use Rattle.schedule.specs.Plan.{Plan, active}
 use Rattle.schedule.specs.Checks.{waits, rule28, rule29, rule30, rule31}
 use Rattle.schedule.specs.Numbers.{ruleNumber}
-use Rattle.laws.proofs.Words.{wordOf-ext}
+use Rattle.laws.proofs.Tests.{T-all}
+use Rattle.laws.proofs.Counting.{T-ext, T-false}
+use Rattle.laws.proofs.Words.{bit-high, bit-wordOf, word-ext, wordOf-ext, wordOf-lt}
 use Rattle.laws.proofs.RowLaws.{brokenMask}
+use Rattle.bits.proofs.WordLaws.{bit-zero}
 use Rattle.checks.specs.declared.tick.TickRule.{TickRule}
+use Rattle.checks.specs.Windows.{openOf, without}
 use Rattle.checks.specs.Tables.{
   some as someOf,
   waitsFrom,
   waitingMask,
-  waitingOf,
   outranking,
   outrankingOf,
+  rankMask,
   tickName,
   tickRule,
-  rankMask,
   breakingOf,
+  HoldsOnly,
   Tabled,
 }
-use Rattle.checks.proofs.WaitLaws.{
-  waits-when,
-  some-ext,
-  idle-mask,
-  preemption-mask,
-  tie-mask,
-  cores-mask,
-}
+use Rattle.checks.proofs.WaitLaws.{waits-when, idle-mask, preemption-mask, tie-mask, cores-mask}
+
+-- nothing waits
+pub and-none : (x y : ℕ) → x ≡ 0 → 0 ≡ bitAnd x y
+and-none x y e = sym (ap (λ (w : ℕ). bitAnd w y) e ∙ and-zero-l y)
+
+-- the word of fewer bits, where there are no others
+fewer-bits : (n : ℕ) (p q : ℕ → Bool) → n ≤ 32 → ((b : ℕ) → b < n → p b ≡ q b) → ((b : ℕ) → n ≤ b → p b ≡ false)
+    → wordOf 32 p ≡ wordOf n q
+fewer-bits n p q few h none =
+    word-ext 32 (wordOf 32 p) (wordOf n q) (wordOf-lt 32 p) (lt-of-lt-of-le (wordOf-lt n q) (pow-mono few)) (λ b l.
+    bit-wordOf 32 p b l
+    ∙ elim (decLt b n) [
+      | yes k ↦ h b k ∙ sym (bit-wordOf n q b k)
+      | no k ↦ none b (omega arith) ∙ sym (T-false (bit (wordOf n q) b) (bit-high (wordOf n q) n b (wordOf-lt n q) (omega arith)))
+    ])
+
+-- the same of some activity
+fewer-some : (n : ℕ) (p q : ℕ → Bool) → n ≤ 32 → ((b : ℕ) → b < n → p b ≡ q b) → ((b : ℕ) → n ≤ b → p b ≡ false)
+    → someOf 32 p ≡ someOf n q
+unfolding someOf
+fewer-some n p q few h none = ap not same
+  where
+    same : all 32 (λ i. not (p i)) ≡ all n (λ i. not (q i))
+    same = T-ext _ _
+        (λ t. T-all n (λ i. not (q i)) .1 (λ i l. subst (λ (x : Bool). T (not x)) (h i l) (T-all 32 (λ i. not (p i)) .0 t i (omega (arith, few, l)))))
+        (λ t. T-all 32 (λ i. not (p i)) .1 (λ i l. elim (decLt i n) [
+          | yes k ↦ subst (λ (x : Bool). T (not x)) (sym (h i k)) (T-all n (λ i. not (q i)) .0 t i k)
+          | no k ↦ subst (λ (x : Bool). T (not x)) (sym (none i (omega (arith, k)))) tt
+        ]))
 
 module _ (rule : TickRule) (m : Model) (p : Plan) (froms ends masks : List ℕ) (h : Tabled rule m p froms ends masks) where
-  waiting-is : (t : ℕ) → waitingOf (m .activities) froms ends (p .word t) t ≡ waitingMask m p t
-  unfolding waitingOf waitingMask
+  -- what is open and not active waits
+  waiting-is : (t : ℕ) → without (openOf (m .activities) froms ends t) (p .word t) ≡ waitingMask m p t
+  unfolding without openOf waitingMask
   waiting-is t =
-      wordOf-ext (m .activities) _ _ (λ a l.
-      ap₂ (λ (x y : ℕ). not (active p t a) && (leb x t && ltb t y)) (h .from-ticks a l) (h .end-ticks a l)
+      fewer-bits (m .activities) _ (waits m p t) (h .few)
+      (λ a l. ap (λ (x : Bool). x && not (active p t a)) (bit-wordOf (m .activities) inside a l)
+      ∙ swap (inside a) (not (active p t a))
+      ∙ ap₂ (λ (x y : ℕ). not (active p t a) && (leb x t && ltb t y)) (h .from-ticks a l) (h .end-ticks a l)
       ∙ sym (waits-when m p t a))
+      (λ a l. ap (λ (x : Bool). x && not (active p t a))
+      (T-false (bit (wordOf (m .activities) inside) a)
+      (bit-high (wordOf (m .activities) inside) (m .activities) a (wordOf-lt (m .activities) inside) l)))
+    where
+      inside : ℕ → Bool
+      inside a = leb (getD froms a 0) t && ltb t (getD ends a 0)
 
-  outranking-is : (word : ℕ) → outrankingOf (m .activities) masks word ≡ outranking (m .activities) (rankMask rule m) word
+      swap : (x y : Bool) → (x && y) ≡ (y && x)
+      swap true true = refl
+      swap true false = refl
+      swap false true = refl
+      swap false false = refl
+
+  outranking-is : (level : Bool) → HoldsOnly (m .activities) masks (rankMask m level) → (word : ℕ)
+      → outrankingOf masks word ≡ outranking (m .activities) (rankMask m level) word
   unfolding outrankingOf outranking
-  outranking-is word =
-      wordOf-ext 32 _ _ (λ b _. some-ext (m .activities) _ _ (λ a l.
-      ap (λ (x : ℕ). bit word a && bit x b) (h .rank-masks a l)))
+  outranking-is level ranked word =
+      wordOf-ext 32 _ _ (λ b _. fewer-some (m .activities) _ _ (h .few)
+      (λ a l. ap (λ (x : ℕ). bit word a && bit x b) (ranked .below a l))
+      (λ a l. ap (λ (x : ℕ). bit word a && bit x b) (ranked .beyond a l)
+      ∙ ap (λ (x : Bool). bit word a && x) (bit-zero b) ∙ and-false (bit word a)))
 
 -- the mask of a rule's broken places at a tick
 pub tick-mask : (rule : TickRule) (m : Model) (p : Plan) (froms ends masks : List ℕ) → Tabled rule m p froms ends masks
-    → (t : ℕ) → breakingOf rule (p .word t) (m .cores) (m .activities) froms ends masks t ≡ brokenMask (tickRule rule m p) t
+    → (t : ℕ) → breakingOf rule (p .word t) (m .cores) (openOf (m .activities) froms ends t) masks ≡ brokenMask (tickRule rule m p) t
 tick-mask TickRule.Cores m p froms ends masks h t = sym (cores-mask m p t)
 tick-mask TickRule.Preemption m p froms ends masks h t =
     ap₂ (λ (x y : ℕ). cond (eqb (ones (p .word t)) (m .cores)) (bitAnd x y) 0)
     (waiting-is TickRule.Preemption m p froms ends masks h t)
-    (outranking-is TickRule.Preemption m p froms ends masks h (p .word t))
+    (outranking-is TickRule.Preemption m p froms ends masks h false (h .ranked) (p .word t))
     ∙ sym (preemption-mask m p t (h .few))
 tick-mask TickRule.Idle m p froms ends masks h t =
     ap (λ (x : ℕ). cond (ltb (ones (p .word t)) (m .cores)) x 0) (waiting-is TickRule.Idle m p froms ends masks h t)
     ∙ sym (idle-mask m p t)
 tick-mask TickRule.Tie m p froms ends masks h t =
     ap₂ (λ (x y : ℕ). cond (eqb (ones (p .word t)) (m .cores)) (bitAnd x y) 0)
-    (waiting-is TickRule.Tie m p froms ends masks h t) (outranking-is TickRule.Tie m p froms ends masks h (p .word t))
+    (waiting-is TickRule.Tie m p froms ends masks h t)
+    (outranking-is TickRule.Tie m p froms ends masks h true (h .ranked) (p .word t))
     ∙ sym (tie-mask m p t (h .few))
 
 -- a rule of ticks is tried at H ticks and at no more than 32 columns
@@ -92,12 +139,13 @@ tick-number TickRule.Preemption m p = refl
 tick-number TickRule.Idle m p = refl
 tick-number TickRule.Tie m p = refl
 
--- the mask of a tick, from the word, the cores and the count of activities that the code reads
+-- the mask of a tick, from the word, the cores and the open windows that the code reads
 pub tick-read : (rule : TickRule) (m : Model) (p : Plan) (froms ends masks : List ℕ) → Tabled rule m p froms ends masks
-    → (t word cores n mask : ℕ) → mask ≡ breakingOf rule word cores n froms ends masks t
-    → word ≡ p .word t → cores ≡ m .cores → n ≡ m .activities → mask ≡ brokenMask (tickRule rule m p) t
-tick-read rule m p froms ends masks h t word cores n mask e w c k =
+    → (t word cores n opened mask : ℕ) → mask ≡ breakingOf rule word cores opened masks
+    → word ≡ p .word t → cores ≡ m .cores → opened ≡ openOf n froms ends t → n ≡ m .activities
+    → mask ≡ brokenMask (tickRule rule m p) t
+tick-read rule m p froms ends masks h t word cores n opened mask e w c o k =
     e
-    ∙ ap (λ (x : ℕ). breakingOf rule x cores n froms ends masks t) w
-    ∙ ap₂ (λ (x y : ℕ). breakingOf rule (p .word t) x y froms ends masks t) c k
+    ∙ ap (λ (x : ℕ). breakingOf rule x cores opened masks) w
+    ∙ ap₂ (λ (x y : ℕ). breakingOf rule (p .word t) x y masks) c (o ∙ ap (λ (x : ℕ). openOf x froms ends t) k)
     ∙ tick-mask rule m p froms ends masks h t

@@ -20,7 +20,7 @@ use Rattle.laws.proofs.Sound.{waits-sound}
 use Rattle.laws.proofs.Words.{wordOf-ext, wordOf-lt, word-ext, bit-wordOf}
 use Rattle.laws.proofs.RowLaws.{brokenMask}
 use Rattle.bits.proofs.WordLaws.{bit-and, bit-or, zero-bits}
-use Rattle.checks.specs.Tables.{some, waitsFrom, waitingMask, aboveMask, levelMask, outranking}
+use Rattle.checks.specs.Tables.{some, waitsFrom, waitingMask, rankMask, outranking}
 
 -- a term that counts only where a test passes
 counted : (t : Bool) (x : ℕ) → T t → cond t x 0 ≡ x
@@ -144,12 +144,12 @@ leb-not-ltb x y = T-ext _ _ (λ h. simp tests (λ l. omega (arith, T-leb x y .0 
 -- 29: with exactly c ones, the waiting with a priority above some active one's
 pub preemption-mask : (m : Model) (p : Plan) (t : ℕ) → m .activities ≤ 32
     → brokenMask (rule29 m p) t
-    ≡ cond (eqb (ones (p .word t)) (m .cores)) (bitAnd (waitingMask m p t) (outranking (m .activities) (aboveMask m) (p .word t))) 0
-unfolding brokenMask rule29 aboveMask
+    ≡ cond (eqb (ones (p .word t)) (m .cores)) (bitAnd (waitingMask m p t) (outranking (m .activities) (rankMask m false) (p .word t))) 0
+unfolding brokenMask rule29 rankMask
 preemption-mask m p t few =
     wordOf-ext (m .activities) _ _ (λ b _. ap (λ (x : Bool). not (eqb (ones (p .word t)) (m .cores) ⇒ waits m p t b ⇒ x))
     (all-ext (m .activities) _ _ (λ a _. ap (λ (x : Bool). active p t a ⇒ x) (leb-not-ltb (priorityOf m b) (priorityOf m a)))))
-    ∙ contested m p t few (eqb (ones (p .word t)) (m .cores)) (aboveMask m) (λ a b. ltb (priorityOf m a) (priorityOf m b))
+    ∙ contested m p t few (eqb (ones (p .word t)) (m .cores)) (rankMask m false) (λ a b. ltb (priorityOf m a) (priorityOf m b))
     (λ a b _ lb. bit-wordOf (m .activities) (λ b. ltb (priorityOf m a) (priorityOf m b)) b lb)
 
 swapped : (a b c : Bool) → (a ⇒ b ⇒ c) ≡ (b ⇒ a ⇒ c)
@@ -166,15 +166,15 @@ not-both false false = refl
 -- 31: with exactly c ones, the waiting with the priority of some active activity with a larger number
 pub tie-mask : (m : Model) (p : Plan) (t : ℕ) → m .activities ≤ 32
     → brokenMask (rule31 m p) t
-    ≡ cond (eqb (ones (p .word t)) (m .cores)) (bitAnd (waitingMask m p t) (outranking (m .activities) (levelMask m) (p .word t))) 0
-unfolding brokenMask rule31 levelMask
+    ≡ cond (eqb (ones (p .word t)) (m .cores)) (bitAnd (waitingMask m p t) (outranking (m .activities) (rankMask m true) (p .word t))) 0
+unfolding brokenMask rule31 rankMask
 tie-mask m p t few =
     wordOf-ext (m .activities) _ _ (λ b _. ap not
     (swapped (waits m p t b) (eqb (ones (p .word t)) (m .cores)) _
     ∙ ap (λ (x : Bool). eqb (ones (p .word t)) (m .cores) ⇒ waits m p t b ⇒ x)
     (all-ext (m .activities) _ _ (λ a _. ap (λ (x : Bool). active p t a ⇒ x)
     (not-both (ltb b a) (eqb (priorityOf m b) (priorityOf m a)))))))
-    ∙ contested m p t few (eqb (ones (p .word t)) (m .cores)) (levelMask m)
+    ∙ contested m p t few (eqb (ones (p .word t)) (m .cores)) (rankMask m true)
     (λ a b. eqb (priorityOf m b) (priorityOf m a) && ltb b a)
     (λ a b _ lb. bit-wordOf (m .activities) (λ b. eqb (priorityOf m b) (priorityOf m a) && ltb b a) b lb)
 
@@ -187,41 +187,6 @@ cores-mask m p t = one (leb (ones (p .word t)) (m .cores))
     one : (b : Bool) → 0 + cond (not b) (2 ^ 0) 0 ≡ cond b 0 1
     one true = refl
     one false = refl
-
-some-next : (n : ℕ) (p : ℕ → Bool) → some (n + 1) p ≡ (some n p || p n)
-unfolding some all
-some-next n p = rw (add-one n) (told (all n (λ i. not (p i))) (p n))
-  where
-    told : (a b : Bool) → not (a && not b) ≡ (not a || b)
-    told true b = Bool·not-not b
-    told false b = refl
-
-some-start : (p : ℕ → Bool) → some 0 p ≡ false
-unfolding some all
-some-start p = refl
-
--- a mask joined where it counts: the bits of both
-pub join-next : (n mask : ℕ) (word : ℕ) (masks : ℕ → ℕ) (counts : Bool)
-    → cond counts (bitOr (outranking n masks word) mask) (outranking n masks word) < 2 ^ 32
-    → mask ≡ masks n → counts ≡ bit word n
-    → cond counts (bitOr (outranking n masks word) mask) (outranking n masks word) ≡ outranking (n + 1) masks word
-unfolding outranking
-join-next n mask word masks counts h e k =
-    word-ext 32 _ _ h (wordOf-lt 32 _) (λ b l. bits-of counts b l
-    ∙ ap (λ (x : Bool). f b || x) (ap₂ (λ (x : Bool) (y : ℕ). x && bit y b) k e)
-    ∙ sym (some-next n (λ a. bit word a && bit (masks a) b))
-    ∙ sym (bit-wordOf 32 _ b l))
-  where
-    f : ℕ → Bool
-    f b = some n (λ a. bit word a && bit (masks a) b)
-
-    bits-of : (c : Bool) (b : ℕ) → b < 32 → bit (cond c (bitOr (wordOf 32 f) mask) (wordOf 32 f)) b ≡ (f b || (c && bit mask b))
-    bits-of true b l = bit-or (wordOf 32 f) mask b ∙ ap (λ (x : Bool). x || bit mask b) (bit-wordOf 32 f b l)
-    bits-of false b l = bit-wordOf 32 f b l ∙ sym (or-false (f b))
-
-pub join-start : (masks : ℕ → ℕ) (word : ℕ) → outranking 0 masks word ≡ 0
-unfolding outranking
-join-start masks word = word-none 32 (λ b. some 0 (λ a. bit word a && bit (masks a) b)) (λ b l. some-start (λ a. bit word a && bit (masks a) b))
 
 pub ltb-not-leb : (x y : ℕ) → ltb x y ≡ not (leb y x)
 ltb-not-leb x y = sym (Bool·not-not (ltb x y)) ∙ ap not (sym (leb-not-ltb y x))

@@ -1,12 +1,15 @@
 -- Rules 21 to 27 by name, and what their code answers at an activity.
 -- Assumes nothing.
 use Prim.Native.Nat.{ℕ, _+_, _≤_, _<_}
-use mathlib.Core.Bool.{Bool, true, false, not, cond}
-use mathlib.Core.List.{List, [], _∷_}
+use mathlib.Core.Bool.{Bool, true, false, _&&_, not}
+use mathlib.Core.List.{List, [], _∷_, _++_}
 use mathlib.Core.Path.{_≡_}
+use lib.Dec.{leb, ltb}
+use lib.ListN.{getD}
+use Rattle.schedule.specs.Bounded.{all, bit, wordOf, _⇒_}
 use Rattle.schedule.specs.Rule.{Rule}
-use Rattle.schedule.specs.Model.{Model, temporally, byData}
-use Rattle.schedule.specs.Plan.{Plan}
+use Rattle.schedule.specs.Model.{Model}
+use Rattle.schedule.specs.Plan.{Plan, active}
 use Rattle.schedule.specs.Checks.{countOf, rule21, rule22, rule23, rule24, rule25, rule26, rule27, rule28, rule29, rule30, rule31, plainRules, strictRules}
 use Rattle.schedule.specs.Answers.{plainChecks, strictChecks}
 use Rattle.schedule.specs.declared.RuleRefusal.{RuleRefusal}
@@ -31,20 +34,23 @@ activityName ActivityRule.Temporal = RuleRefusal.Temporal
 activityName ActivityRule.Data = RuleRefusal.Data
 activityName ActivityRule.Eligible = RuleRefusal.Eligible
 
--- b precedes a, temporally or by data
-abbrev pub precedes : Model → Bool → ℕ → ℕ → Bool
-precedes m true b a = temporally m b a
-precedes m false b a = byData m b a
+-- rule 21's last part: no active tick of a lies outside its window
+unfoldable pub noneOutside : Model → Plan → ℕ → Bool
+noneOutside m p a = all (m .horizon) (λ t. active p t a ⇒ (leb (p .start a) t && ltb t (p .end a)))
 
--- the delay after b, which counts for a temporal predecessor only
-abbrev pub delayIf : Model → Bool → ℕ → ℕ
-delayIf m temporal b = cond temporal (m .delay b) 0
+-- rules 25 and 26: the predecessors that a start comes too early after, from tables of ends and delays
+unfoldable pub earlyFrom : ℕ → ℕ → ℕ → List ℕ → List ℕ → ℕ
+earlyFrom preceding start n ends delays =
+    wordOf n (λ b. not (bit preceding b ⇒ leb (getD ends b 0 + getD delays b 0) start))
 
--- the tables that rules 22, 24 and 27 need
-pub record Counted (m : Model) (p : Plan) (counts finishes : List ℕ) : Type 0 where
+-- what the rules of activities need: those active outside their window, and tables
+pub record Counted (m : Model) (p : Plan) (outside : ℕ) (counts finishes ends delays : List ℕ) : Type 0 where
   pub few : m .activities ≤ 32
+  pub strays : (a : ℕ) → a < m .activities → bit outside a ≡ not (noneOutside m p a)
   pub count-ticks : Holds m counts (countOf m p)
   pub finish-ticks : Holds m finishes (finishOf m p)
+  pub end-ticks : Holds m ends (p .end)
+  pub delay-ticks : Holds m delays (m .delay)
 
 -- the rules in the order in which the code tries them
 unfoldable pub activityRules : Model → Plan → List Rule
@@ -56,6 +62,11 @@ plainTicks m p = rule28 m p ∷ rule29 m p ∷ []
 
 unfoldable pub strictTicks : Model → Plan → List Rule
 strictTicks m p = rule30 m p ∷ rule31 m p ∷ []
+
+-- the rules of ticks of the plain or the strict check
+abbrev pub tickRules : Bool → Model → Plan → List Rule
+tickRules true m p = plainTicks m p ++ strictTicks m p
+tickRules false m p = plainTicks m p
 
 -- the rules of the plain or the strict check on a plan, and on two byte strings
 abbrev pub gridRules : Bool → Model → Plan → List Rule

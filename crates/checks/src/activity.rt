@@ -1,6 +1,7 @@
 // Rules 21 to 27, activity by activity.
 use crate::refused;
 use crate::tables::end_of;
+use crate::tables::start_of;
 use crate::tables::thread_of;
 use records::Pass;
 use schedule::Activity;
@@ -17,7 +18,7 @@ ghost use Rattle.schedule.specs.Plan.{plan, active};
 ghost use Rattle.schedule.specs.Checks.{window};
 ghost use Rattle.laws.proofs.RowLaws.{brokenMask};
 ghost use Rattle.records.specs.Reads.{passNumbers};
-ghost use Rattle.checks.specs.Rules.{activityName, activityRule, precedes, delayIf, Counted};
+ghost use Rattle.checks.specs.Rules.{activityName, activityRule, earlyFrom, noneOutside, Counted};
 
 // The rules that are tried at activities.
 pub(crate) enum ActivityRule {
@@ -37,35 +38,9 @@ pub(crate) enum ActivityRule {
     Eligible,
 }
 
-// Whether a tick's bit, if it is set, lies inside the window.
-fn in_window(word: u32, a: u32, t: u16, start: u16, end: u16) -> bool
-    ensures { λ r. ⌜ r ≡ (bit word a ⇒ (leb start t && ltb t end)) ⌝ }
-{
-    if !bits::has(word, a) {
-        return true;
-    }
-    if t < start {
-        return false;
-    }
-    t < end
-}
-
-// "none outside": every tick at which a is active lies inside the window.
-fn none_outside(r: &[u8], horizon: u16, a: u32, start: u16, end: u16) -> bool
-    ensures { λ x. ⌜ x ≡ all horizon (λ t. active (plan (now (r .entry))) t a ⇒ (leb start t && ltb t end)) ⌝ }
-{
-    let mut t: u16 = 0;
-    while t < horizon {
-        if !in_window(records::plan::word(r, t), a, t, start, end) {
-            return false;
-        }
-        t += 1;
-    }
-    true
-}
-
-// 21 at activity a.
-fn window_holds(s: &[u8], r: &[u8], a: u8) -> bool
+// 21 at activity a, where a word says which activities are active outside their window.
+fn window_holds(s: &[u8], r: &[u8], a: u8, outside: u32) -> bool
+    requires { ⌜ bit outside a ≡ not (noneOutside (model (now s)) (plan (now r)) a) ⌝ }
     ensures { λ x. ⌜ x ≡ window (model (now (s .entry))) (plan (now (r .entry))) a ⌝ }
 {
     let row = records::plan::activity_row(r, Activity(a));
@@ -85,7 +60,7 @@ fn window_holds(s: &[u8], r: &[u8], a: u8) -> bool
     if !bits::has(records::plan::word(r, end - 1), a as u32) {
         return false;
     }
-    none_outside(r, horizon, a as u32, start, end)
+    !bits::has(outside, a as u32)
 }
 
 // 22 at activity a, with its count.
@@ -111,69 +86,33 @@ fn deadline_holds(s: &[u8], r: &[u8], a: u8) -> bool
     end_of(r, Activity(a)) <= period
 }
 
-// The start of activity a.
-fn start_of(r: &[u8], a: Activity) -> u32
-    ensures { λ x. ⌜ x ≡ plan (now (r .entry)) .start (a .0) ⌝ }
-{
-    let row = records::plan::activity_row(r, a);
-    row.start as u32
-}
-
 // Whether a start comes before a predecessor's end and delay.
-fn too_early(precedes: bool, start: u32, end: u32, delay: u16) -> bool
-    requires { ⌜ end < 65536 ⌝ }
+fn too_early(precedes: bool, start: u32, end: u32, delay: u32) -> bool
     ensures { λ r. ⌜ r ≡ not (precedes ⇒ leb (end + delay) start) ⌝ }
 {
     if precedes {
-        start < end + (delay as u32)
+        if start < end {
+            return true;
+        }
+        start - end < delay
     } else {
         false
     }
 }
 
-// 25 and 26 at activity a: the predecessors that a starts too early after.
-fn early_mask(s: &[u8], r: &[u8], a: u8, temporal: bool) -> u32
-    requires { ⌜ model (now s) .activities ≤ 32 ⌝ }
-    ensures { λ x. ⌜ x ≡ wordOf (model (now (s .entry)) .activities) (λ b. not (precedes (model (now (s .entry))) temporal b a ⇒ leb (plan (now (r .entry)) .end b + delayIf (model (now (s .entry))) temporal b) (plan (now (r .entry)) .start a))) ⌝ }
+// 25 and 26: the predecessors that a start comes too early after.
+fn early_mask(preceding: u32, start: u32, n: usize, ends: &[u32; 32], delays: &[u32; 32]) -> u32
+    requires { ⌜ n ≤ 32 ⌝ }
+    ensures { λ x. ⌜ x ≡ earlyFrom preceding start n (now (ends .entry)) (now (delays .entry)) ⌝ }
 {
-    let sizes = records::model::counts(s);
-    let n = sizes.activities;
-    let start = start_of(r, Activity(a));
-    let preceding = predecessors(s, Activity(a), temporal);
     let mut mask: u32 = 0;
-    let mut b: u8 = 0;
+    let mut b = 0;
     while b < n {
-        let delay = delay_if(s, Activity(b), temporal);
-        let yes = too_early(
-            bits::has(preceding, b as u32),
-            start,
-            end_of(r, Activity(b)),
-            delay,
-        );
+        let yes = too_early(bits::has(preceding, b as u32), start, ends[b], delays[b]);
         mask = bits::mark(mask, b as u32, yes);
         b += 1;
     }
     mask
-}
-
-// A predecessor mask of activity a.
-fn predecessors(s: &[u8], a: Activity, temporal: bool) -> u32
-    ensures { λ x. ⌜ x ≡ cond temporal (model (now (s .entry)) .temporal-mask (a .0)) (model (now (s .entry)) .data-mask (a .0)) ⌝ }
-{
-    let row = records::model::activity_row(s, a);
-    if temporal {
-        row.temporal_mask
-    } else {
-        row.data_mask
-    }
-}
-
-// The delay after activity b, which counts for a temporal predecessor only.
-fn delay_if(s: &[u8], b: Activity, temporal: bool) -> u16
-    ensures { λ x. ⌜ x ≡ delayIf (model (now (s .entry))) temporal (b .0) ⌝ }
-{
-    let row = records::model::activity_row(s, b);
-    if temporal { row.delay } else { 0 }
 }
 
 // Bit 0 where a rule is broken that names no B.
@@ -205,28 +144,30 @@ fn breaking(
     rule: ActivityRule,
     s: &[u8],
     r: &[u8],
+    outside: u32,
     counts: &[u32; 32],
     finishes: &[u32; 32],
+    ends: &[u32; 32],
+    delays: &[u32; 32],
     a: u8,
 ) -> u32
-    requires { ⌜ Counted (model (now s)) (plan (now r)) (now counts) (now finishes) ⌝ }
+    requires { ⌜ Counted (model (now s)) (plan (now r)) outside (now counts) (now finishes) (now ends) (now delays) ⌝ }
     requires { ⌜ a < model (now s) .activities ⌝ }
     ensures { λ x. ⌜ x ≡ brokenMask (activityRule rule (model (now (s .entry))) (plan (now (r .entry)))) a ⌝ }
 {
-    let count = counts[a as usize];
-    let finish = finishes[a as usize];
+    let at = a as usize;
+    let row = records::model::activity_row(s, Activity(a));
+    let sizes = records::model::counts(s);
+    let n = sizes.activities as usize;
+    let start = start_of(r, Activity(a));
     match rule {
-        ActivityRule::Window => flag(window_holds(s, r, a)),
-        ActivityRule::Count => flag(count_holds(s, a, count)),
+        ActivityRule::Window => flag(window_holds(s, r, a, outside)),
+        ActivityRule::Count => flag(count_holds(s, a, counts[at])),
         ActivityRule::Deadline => flag(deadline_holds(s, r, a)),
-        ActivityRule::Span => flag(span_holds(
-            start_of(r, Activity(a)),
-            count,
-            end_of(r, Activity(a)),
-        )),
-        ActivityRule::Temporal => early_mask(s, r, a, true),
-        ActivityRule::Data => early_mask(s, r, a, false),
-        ActivityRule::Eligible => flag(eligible_holds(start_of(r, Activity(a)), count, finish)),
+        ActivityRule::Span => flag(span_holds(start, counts[at], ends[at])),
+        ActivityRule::Temporal => early_mask(row.temporal_mask, start, n, ends, delays),
+        ActivityRule::Data => early_mask(row.data_mask, start, n, ends, &[0u32; 32]),
+        ActivityRule::Eligible => flag(eligible_holds(start, counts[at], finishes[at])),
     }
 }
 
@@ -250,17 +191,20 @@ pub(crate) fn over_activities(
     rule: ActivityRule,
     s: &[u8],
     r: &[u8],
+    outside: u32,
     counts: &[u32; 32],
     finishes: &[u32; 32],
+    ends: &[u32; 32],
+    delays: &[u32; 32],
 ) -> Pass
-    requires { ⌜ Counted (model (now s)) (plan (now r)) (now counts) (now finishes) ⌝ }
+    requires { ⌜ Counted (model (now s)) (plan (now r)) outside (now counts) (now finishes) (now ends) (now delays) ⌝ }
     ensures { λ x. ⌜ passNumbers x ≡ break (activityRule rule (model (now (s .entry))) (plan (now (r .entry)))) ⌝ }
 {
     let sizes = records::model::counts(s);
     let n = sizes.activities;
     let mut a: u8 = 0;
     while a < n {
-        let b = bits::lowest(breaking(rule, s, r, counts, finishes, a));
+        let b = bits::lowest(breaking(rule, s, r, outside, counts, finishes, ends, delays, a));
         if b < 32 {
             return refused(name(rule), a as u32, b);
         }

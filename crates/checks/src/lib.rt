@@ -3,6 +3,7 @@ mod activity;
 mod figures;
 mod tables;
 mod tick;
+mod windows;
 
 use activity::ActivityRule;
 use activity::over_activities;
@@ -14,7 +15,7 @@ use schedule::Place;
 use schedule::Refusal;
 use schedule::RuleRefusal;
 use schedule::Verdict;
-use tables::Entry;
+use tables::Column;
 use tick::TickRule;
 use tick::over_ticks;
 ghost use mathlib.Core.Path.{_≡_};
@@ -26,7 +27,7 @@ ghost use Rattle.schedule.specs.Answers.{answer, figures, plainVerdict, strictV
 ghost use Rattle.schedule.specs.Numbers.{ruleNumber, verdictNumbers};
 ghost use Rattle.laws.proofs.Formed.{Formed};
 ghost use Rattle.checks.specs.Tables.{Timed};
-ghost use Rattle.checks.specs.Rules.{Counted, activityRules, plainTicks, strictTicks, gridRules, checksOf};
+ghost use Rattle.checks.specs.Rules.{Counted, activityRules, plainTicks, strictTicks, tickRules, gridRules, checksOf};
 ghost use Rattle.records.specs.Reads.{passNumbers};
 
 // A rule broken at a place.
@@ -37,63 +38,168 @@ fn refused(why: RuleRefusal, a: u32, b: u32) -> Pass
 }
 
 // Rules 21 to 27, "each tried over everything before the next".
-fn activity_rules(s: &[u8], r: &[u8], counts: &[u32; 32], finishes: &[u32; 32]) -> Pass
-    requires { ⌜ Counted (model (now s)) (plan (now r)) (now counts) (now finishes) ⌝ }
+fn activity_rules(
+    s: &[u8],
+    r: &[u8],
+    outside: u32,
+    counts: &[u32; 32],
+    finishes: &[u32; 32],
+    ends: &[u32; 32],
+    delays: &[u32; 32],
+) -> Pass
+    requires { ⌜ Counted (model (now s)) (plan (now r)) outside (now counts) (now finishes) (now ends) (now delays) ⌝ }
     ensures { λ x. ⌜ passNumbers x ≡ firstBreak (activityRules (model (now (s .entry))) (plan (now (r .entry)))) ⌝ }
 {
-    let window = over_activities(ActivityRule::Window, s, r, counts, finishes);
+    let window = over_activities(
+        ActivityRule::Window,
+        s,
+        r,
+        outside,
+        counts,
+        finishes,
+        ends,
+        delays,
+    );
     if let Pass::Refused(_) = window {
         return window;
     }
-    let count = over_activities(ActivityRule::Count, s, r, counts, finishes);
+    let count = over_activities(
+        ActivityRule::Count,
+        s,
+        r,
+        outside,
+        counts,
+        finishes,
+        ends,
+        delays,
+    );
     if let Pass::Refused(_) = count {
         return count;
     }
-    let deadline = over_activities(ActivityRule::Deadline, s, r, counts, finishes);
+    let deadline = over_activities(
+        ActivityRule::Deadline,
+        s,
+        r,
+        outside,
+        counts,
+        finishes,
+        ends,
+        delays,
+    );
     if let Pass::Refused(_) = deadline {
         return deadline;
     }
-    let span = over_activities(ActivityRule::Span, s, r, counts, finishes);
+    let span = over_activities(
+        ActivityRule::Span,
+        s,
+        r,
+        outside,
+        counts,
+        finishes,
+        ends,
+        delays,
+    );
     if let Pass::Refused(_) = span {
         return span;
     }
-    let temporal = over_activities(ActivityRule::Temporal, s, r, counts, finishes);
+    let temporal = over_activities(
+        ActivityRule::Temporal,
+        s,
+        r,
+        outside,
+        counts,
+        finishes,
+        ends,
+        delays,
+    );
     if let Pass::Refused(_) = temporal {
         return temporal;
     }
-    let data = over_activities(ActivityRule::Data, s, r, counts, finishes);
+    let data = over_activities(
+        ActivityRule::Data,
+        s,
+        r,
+        outside,
+        counts,
+        finishes,
+        ends,
+        delays,
+    );
     if let Pass::Refused(_) = data {
         return data;
     }
-    over_activities(ActivityRule::Eligible, s, r, counts, finishes)
+    over_activities(
+        ActivityRule::Eligible,
+        s,
+        r,
+        outside,
+        counts,
+        finishes,
+        ends,
+        delays,
+    )
 }
 
 // Rules 28 and 29.
-fn plain_ticks(s: &[u8], r: &[u8], froms: &[u32; 32], ends: &[u32; 32]) -> Pass
-    requires { ⌜ Timed (model (now s)) (plan (now r)) (now froms) (now ends) ⌝ }
+fn plain_ticks(
+    s: &[u8],
+    r: &[u8],
+    froms: &[u32; 32],
+    ends: &[u32; 32],
+    priorities: &[u32; 32],
+) -> Pass
+    requires { ⌜ Timed (model (now s)) (plan (now r)) (now froms) (now ends) (now priorities) ⌝ }
     ensures { λ x. ⌜ passNumbers x ≡ firstBreak (plainTicks (model (now (s .entry))) (plan (now (r .entry)))) ⌝ }
 {
-    let none = [0u32; 32];
-    let cores = over_ticks(TickRule::Cores, s, r, froms, ends, &none);
+    let sizes = records::model::counts(s);
+    let above = tables::rank_masks(sizes.activities as usize, priorities, false);
+    let cores = over_ticks(TickRule::Cores, s, r, froms, ends, &above);
     if let Pass::Refused(_) = cores {
         return cores;
     }
-    let above = tables::tabulate(Entry::Above, s, r);
     over_ticks(TickRule::Preemption, s, r, froms, ends, &above)
 }
 
 // Rules 30 and 31: "the strict check goes on".
-fn strict_ticks(s: &[u8], r: &[u8], froms: &[u32; 32], ends: &[u32; 32]) -> Pass
-    requires { ⌜ Timed (model (now s)) (plan (now r)) (now froms) (now ends) ⌝ }
+fn strict_ticks(
+    s: &[u8],
+    r: &[u8],
+    froms: &[u32; 32],
+    ends: &[u32; 32],
+    priorities: &[u32; 32],
+) -> Pass
+    requires { ⌜ Timed (model (now s)) (plan (now r)) (now froms) (now ends) (now priorities) ⌝ }
     ensures { λ x. ⌜ passNumbers x ≡ firstBreak (strictTicks (model (now (s .entry))) (plan (now (r .entry)))) ⌝ }
 {
-    let none = [0u32; 32];
-    let idle = over_ticks(TickRule::Idle, s, r, froms, ends, &none);
+    let sizes = records::model::counts(s);
+    let level = tables::rank_masks(sizes.activities as usize, priorities, true);
+    let idle = over_ticks(TickRule::Idle, s, r, froms, ends, &level);
     if let Pass::Refused(_) = idle {
         return idle;
     }
-    let level = tables::tabulate(Entry::Level, s, r);
     over_ticks(TickRule::Tie, s, r, froms, ends, &level)
+}
+
+// The rules of ticks of a check, in order.
+fn tick_rules(
+    s: &[u8],
+    r: &[u8],
+    strict: bool,
+    froms: &[u32; 32],
+    ends: &[u32; 32],
+    priorities: &[u32; 32],
+) -> Pass
+    requires { ⌜ Timed (model (now s)) (plan (now r)) (now froms) (now ends) (now priorities) ⌝ }
+    ensures { λ x. ⌜ passNumbers x ≡ firstBreak (tickRules strict (model (now (s .entry))) (plan (now (r .entry)))) ⌝ }
+{
+    let plain = plain_ticks(s, r, froms, ends, priorities);
+    if let Pass::Refused(_) = plain {
+        return plain;
+    }
+    if strict {
+        return strict_ticks(s, r, froms, ends, priorities);
+    }
+    Pass::Holds
 }
 
 // The rules of a check on well-formed records, in order.
@@ -101,22 +207,18 @@ fn grid_rules(s: &[u8], r: &[u8], strict: bool) -> Pass
     requires { ⌜ Formed (model (now s)) ⌝ }
     ensures { λ x. ⌜ passNumbers x ≡ firstBreak (gridRules strict (model (now (s .entry))) (plan (now (r .entry)))) ⌝ }
 {
-    let counts = tables::tabulate(Entry::Count, s, r);
-    let finishes = tables::finishes(s, r, &counts);
-    let activities = activity_rules(s, r, &counts, &finishes);
+    let counts = tables::counts(s, r);
+    let ends = tables::tabulate(Column::End, s, r);
+    let delays = tables::tabulate(Column::Delay, s, r);
+    let finishes = tables::finishes(s, r, &counts, &delays);
+    let outside = windows::strays(s, r, &ends);
+    let activities = activity_rules(s, r, outside, &counts, &finishes, &ends, &delays);
     if let Pass::Refused(_) = activities {
         return activities;
     }
-    let ends = tables::tabulate(Entry::End, s, r);
-    let froms = tables::froms(s, &finishes, &counts, &ends);
-    let ticks = plain_ticks(s, r, &froms, &ends);
-    if let Pass::Refused(_) = ticks {
-        return ticks;
-    }
-    if strict {
-        return strict_ticks(s, r, &froms, &ends);
-    }
-    Pass::Holds
+    let froms = tables::froms(s, &finishes, &counts, &ends, &delays);
+    let priorities = tables::tabulate(Column::Priority, s, r);
+    tick_rules(s, r, strict, &froms, &ends, &priorities)
 }
 
 // A check of a model's and a plan's bytes: "The model is tried first, in list order".

@@ -4,6 +4,7 @@ pub mod Words
 pub mod Lowest
 pub mod Sums
 pub mod Steps
+pub mod Between
 pub mod FieldLaws
 pub mod Parts
 pub mod PlanBytes

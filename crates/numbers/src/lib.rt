@@ -3,7 +3,9 @@ use schedule::FormRefusal;
 use schedule::RuleRefusal;
 use schedule::RunRefusal;
 ghost use mathlib.Core.Path.{_≡_};
-ghost use Prim.Native.Nat.{_-_, max, min};
+ghost use Prim.Native.Nat.{_+_, _-_, max, min};
+ghost use mathlib.Core.Bool.{_&&_, cond};
+ghost use lib.Dec.{ltb};
 ghost use Rattle.schedule.specs.Numbers.{formNumber, ruleNumber, runNumber};
 
 // "A refusal answers its number, A and B".
@@ -75,4 +77,24 @@ pub fn less(x: u32, y: u32) -> u32
     ensures { λ r. ⌜ r ≡ x - y ⌝ }
 {
     if y <= x { x - y } else { 0 }
+}
+
+// A sum that stops at the largest number.
+pub fn sum(x: u32, y: u32) -> u32
+    ensures { λ r. ⌜ r ≡ min (x + y) 4294967295 ⌝ }
+{
+    let room = 0xffff_ffff - x;
+    if y <= room { x + y } else { 0xffff_ffff }
+}
+
+// The sooner of two ticks, where the second comes after tick t.
+pub fn sooner(next: u32, other: u32, t: u32) -> u32
+    ensures { λ r. ⌜ r ≡ cond (ltb t other && ltb other next) other next ⌝ }
+{
+    if t < other {
+        if other < next {
+            return other;
+        }
+    }
+    next
 }

@@ -1,28 +1,31 @@
 -- What the tables say of a tick: the masks are the machine's ready and selected activities.
 -- Assumes nothing.
 use Prim.Native.Nat.{ℕ, _+_, _-_, _^_, _≤_, _<_}
+use native.Mathlib.Decide.{ℕ-discrete}
 use native.Mathlib.Nat.{lt-of-le-of-lt, lt-of-lt-of-le}
 use native.Mathlib.Numerals.{add-one}
 use native.Mathlib.Omega.{arith}
-use mathlib.Core.Bool.{Bool, true, false, _&&_, not, cond}
+use mathlib.Core.Bool.{Bool, true, false, _&&_, not, cond, and-true}
 use mathlib.Core.List.{List}
 use mathlib.Core.Logic.{_↔_, ⊎-elim}
 use mathlib.Core.Path.{_≡_, refl, sym, subst, ap, ap₂, _∙_}
 use lib.Bits.{bitAnd, and-le-l}
 use lib.Dec.{T, eqb, leb, ltb}
 use lib.ListN.{length, getD, set, replicate, getD-replicate, length-set}
-use lib.Seq.{getD-set-other}
+use lib.Seq.{getD-set-same, getD-set-other}
 use lib.Pow.{pow-mono}
 use borrow.Author.Tests.{lt-ltb}
-use Rattle.schedule.specs.Bounded.{all, bit, wordOf, ones, _⇒_}
+use Rattle.schedule.specs.Bounded.{all, bit, lowest, wordOf, ones, _⇒_}
 use Rattle.schedule.specs.Model.{Model}
 use Rattle.schedule.specs.Machine.{State, owes, endedBy, ready, before, rank, selected, wordAt, initial, stateAt, machineWord}
 use Rattle.laws.proofs.Tests.{T-and, T-not, T-all, T-implies, T-leb, T-eqb}
 use Rattle.laws.proofs.Steps.{table-next}
-use Rattle.laws.proofs.Counting.{decT, T-ext, T-false, count-ext}
+use Rattle.laws.proofs.Counting.{decT, T-ext, T-true, T-false, count-ext}
 use Rattle.laws.proofs.MachineLaws.{owes-next, end-next, getD-table}
 use Rattle.laws.proofs.Words.{wordOf-ext, wordOf-lt, bit-wordOf, bit-high, ones-count}
-use Rattle.bits.proofs.WordLaws.{bit-and, bit-not, zero-bits}
+use Rattle.bits.proofs.WordLaws.{bit-and, bit-not, bit-zero, zero-bits}
+use Rattle.bits.proofs.Apart.{lowest-lt, lowest-set, gone, kept}
+use Rattle.bits.specs.WithBit.{withoutBit}
 use Rattle.run.specs.Masks.{Holds, covered, endedFrom, endedMask, readyFrom, selectedFrom, beforeMask, readyMask, tickWord}
 use Rattle.run.specs.Tables.{Filled}
 use Rattle.run.specs.Masks.{Tabled, Masked, Keeps, Stepped}
@@ -194,44 +197,108 @@ passed-from end delay t h =
 pub pos-ltb : (x : ℕ) → (x ≡ 0 → ⊥) → ltb 0 x ≡ true
 pos-ltb x h = lt-ltb 0 x (omega arith)
 
--- ---- a step, activity by activity
+-- ---- a step, bit by bit of the word
 
--- the tables with the first a activities stepped, the others as they were
-pub record Stepping (word t a : ℕ) (owed ends owed′ ends′ : List ℕ) : Type 0 where
-  pub done : Stepped a word t owed ends owed′ ends′
-  pub owed-rest : (i : ℕ) → a ≤ i → getD owed′ i 0 ≡ getD owed i 0
-  pub ends-rest : (i : ℕ) → a ≤ i → getD ends′ i 0 ≡ getD ends i 0
+-- the tables with the activities stepped that the word has and the rest has not
+pub record Stepping (word t rest : ℕ) (owed ends owed′ ends′ : List ℕ) : Type 0 where
+  pub fits : rest < 2 ^ 32
+  pub within : (a : ℕ) → a < 32 → T (bit rest a) → T (bit word a)
+  pub sized : (length owed′ ≡ 32) × (length ends′ ≡ 32)
+  pub owed-less : (a : ℕ) → a < 32 → getD owed′ a 0 ≡ getD owed a 0 - cond (bit word a && not (bit rest a)) 1 0
+  pub ends-next : (a : ℕ) → a < 32
+      → getD ends′ a 0 ≡ cond ((bit word a && not (bit rest a)) && eqb (getD owed a 0) 1) (t + 1) (getD ends a 0)
 
-pub stepping-start : (word t : ℕ) (owed ends : List ℕ) → length owed ≡ 32 → length ends ≡ 32 → Stepping word t 0 owed ends owed ends
-stepping-start word t owed ends h k = record {
-  done = record { sized = (h, k); owed-less = λ a l. absurd (omega arith); ends-next = λ a l. absurd (omega arith) };
-  owed-rest = λ i l. refl;
-  ends-rest = λ i l. refl;
+pub never : (b : Bool) → (b && not b) ≡ false
+never true = refl
+never false = refl
+
+-- the rest of a word stays within it
+pub still-within : (word rest a : ℕ) → rest < 2 ^ 32 → ¬ (rest ≡ 0) → a ≡ lowest 32 (bit rest)
+    → ((i : ℕ) → i < 32 → T (bit rest i) → T (bit word i)) → (i : ℕ) → i < 32 → T (bit (withoutBit rest a) i) → T (bit word i)
+still-within word rest a fits more low h i l x = elim (ℕ-discrete i a) [
+  | yes e ↦ absurd (subst T (gone rest a fits more low) (subst (λ (j : ℕ). T (bit (withoutBit rest a) j)) e x))
+  | no ne ↦ h i l (subst T (kept rest a fits more low i l ne) x)
+]
+
+-- nothing is taken where a test fails
+pub nothing-less : (x : ℕ) (t : Bool) → t ≡ false → x ≡ x - cond t 1 0
+nothing-less x t e = omega (arith, ap (λ (b : Bool). x - cond b 1 0) e)
+
+pub stepping-start : (word t : ℕ) (owed ends : List ℕ) → word < 2 ^ 32 → length owed ≡ 32 → length ends ≡ 32
+    → Stepping word t word owed ends owed ends
+stepping-start word t owed ends fits h k = record {
+  fits = fits;
+  within = λ a l x. x;
+  sized = (h, k);
+  owed-less = λ a l. nothing-less (getD owed a 0) (bit word a && not (bit word a)) (never (bit word a));
+  ends-next = λ a l. sym (ap (λ (x : Bool). cond (x && eqb (getD owed a 0) 1) (t + 1) (getD ends a 0)) (never (bit word a)));
 }
 
-pub stepping-next : (word t a less end : ℕ) (active : Bool) (owed ends owed′ ends′ : List ℕ) → a < 32
-    → Stepping word t a owed ends owed′ ends′
-    → active ≡ bit word a
-    → less ≡ getD owed′ a 0 - cond active 1 0
-    → end ≡ cond (active && eqb (getD owed′ a 0) 1) (t + 1) (getD ends′ a 0)
-    → Stepping word t (a + 1) owed ends (set owed′ a less) (set ends′ a end)
-stepping-next word t a less end active owed ends owed′ ends′ l h e o f = record {
-  done = record {
-    sized = (length-set owed′ a less ∙ h .done .sized .0, length-set ends′ a end ∙ h .done .sized .1);
-    owed-less = table-next owed′ a less (λ i. getD owed i 0 - cond (bit word i) 1 0) (omega (arith, h .done .sized .0))
-        (o ∙ ap₂ (λ (x : ℕ) (b : Bool). x - cond b 1 0) was e) (h .done .owed-less);
-    ends-next = table-next ends′ a end (λ i. cond (bit word i && eqb (getD owed i 0) 1) (t + 1) (getD ends i 0))
-        (omega (arith, h .done .sized .1))
-        (f
-        ∙ ap₂ (λ (b : Bool) (x : ℕ). cond (b && eqb x 1) (t + 1) (getD ends′ a 0)) e was
-        ∙ ap (λ (x : ℕ). cond (bit word a && eqb (getD owed a 0) 1) (t + 1) x) (h .ends-rest a (omega arith))) (h .done .ends-next);
-  };
-  owed-rest = λ i k. getD-set-other owed′ a i less 0 (omega arith) ∙ h .owed-rest i (omega arith);
-  ends-rest = λ i k. getD-set-other ends′ a i end 0 (omega arith) ∙ h .ends-rest i (omega arith);
+-- the lowest of the rest is stepped
+pub stepping-next : (word t rest a less end : ℕ) (owed ends owed′ ends′ : List ℕ) → Stepping word t rest owed ends owed′ ends′
+    → ¬ (rest ≡ 0) → a ≡ lowest 32 (bit rest) → withoutBit rest a < 2 ^ 32
+    → less ≡ getD owed′ a 0 - 1 → end ≡ cond (eqb (getD owed′ a 0) 1) (t + 1) (getD ends′ a 0)
+    → Stepping word t (withoutBit rest a) owed ends (set owed′ a less) (set ends′ a end)
+stepping-next word t rest a less end owed ends owed′ ends′ h more low fits o f = record {
+  fits = fits;
+  within = still-within word rest a (h .fits) more low (h .within);
+  sized = (length-set owed′ a less ∙ h .sized .0, length-set ends′ a end ∙ h .sized .1);
+  owed-less = λ i l. elim (ℕ-discrete i a) [
+    | yes e ↦ subst (λ (j : ℕ). getD (set owed′ a less) j 0 ≡ getD owed j 0 - cond (bit word j && not (bit (withoutBit rest a) j)) 1 0) (sym e)
+        (getD-set-same owed′ a less 0 (omega (arith, here, h .sized .0)) ∙ o ∙ ap (λ (x : ℕ). x - 1) was
+        ∙ sym (ap (λ (x : Bool). getD owed a 0 - cond x 1 0) stepped))
+    | no ne ↦ getD-set-other owed′ a i less 0 ne ∙ h .owed-less i l
+        ∙ sym (ap (λ (x : Bool). getD owed i 0 - cond (bit word i && not x) 1 0) (kept rest a (h .fits) more low i l ne))
+  ];
+  ends-next = λ i l. elim (ℕ-discrete i a) [
+    | yes e ↦ subst (λ (j : ℕ). getD (set ends′ a end) j 0
+        ≡ cond ((bit word j && not (bit (withoutBit rest a) j)) && eqb (getD owed j 0) 1) (t + 1) (getD ends j 0)) (sym e)
+        (getD-set-same ends′ a end 0 (omega (arith, here, h .sized .1)) ∙ f
+        ∙ ap₂ (λ (x y : ℕ). cond (eqb x 1) (t + 1) y) was (h .ends-next a here ∙ ap (λ (x : Bool). cond (x && eqb (getD owed a 0) 1) (t + 1) (getD ends a 0)) waits)
+        ∙ sym (ap (λ (x : Bool). cond (x && eqb (getD owed a 0) 1) (t + 1) (getD ends a 0)) stepped))
+    | no ne ↦ getD-set-other ends′ a i end 0 ne ∙ h .ends-next i l
+        ∙ sym (ap (λ (x : Bool). cond ((bit word i && not x) && eqb (getD owed i 0) 1) (t + 1) (getD ends i 0)) (kept rest a (h .fits) more low i l ne))
+  ];
 }
   where
+    here : a < 32
+    here = lowest-lt rest a (h .fits) more low
+
+    is-set : bit rest a ≡ true
+    is-set = lowest-set rest a (h .fits) more low
+
+    has : bit word a ≡ true
+    has = T-true (bit word a) (h .within a here (subst T (sym is-set) tt))
+
+    waits : (bit word a && not (bit rest a)) ≡ false
+    waits = ap₂ (λ (x y : Bool). x && not y) has is-set
+
+    stepped : (bit word a && not (bit (withoutBit rest a) a)) ≡ true
+    stepped = ap₂ (λ (x y : Bool). x && not y) has (gone rest a (h .fits) more low)
+
     was : getD owed′ a 0 ≡ getD owed a 0
-    was = h .owed-rest a (omega arith)
+    was = h .owed-less a here ∙ sym (nothing-less (getD owed a 0) (bit word a && not (bit rest a)) waits)
+
+-- nothing is left
+pub stepping-end : (word t rest : ℕ) (owed ends owed′ ends′ : List ℕ) → Stepping word t rest owed ends owed′ ends′ → rest ≡ 0
+    → Stepped 32 word t owed ends owed′ ends′
+stepping-end word t rest owed ends owed′ ends′ h e = record {
+  sized = h .sized;
+  owed-less = λ a l. h .owed-less a l ∙ ap (λ (x : Bool). getD owed a 0 - cond x 1 0) (all-done a);
+  ends-next = λ a l. h .ends-next a l ∙ ap (λ (x : Bool). cond (x && eqb (getD owed a 0) 1) (t + 1) (getD ends a 0)) (all-done a);
+}
+  where
+    all-done : (a : ℕ) → (bit word a && not (bit rest a)) ≡ bit word a
+    all-done a = ap (λ (x : Bool). bit word a && not x) (ap (λ (w : ℕ). bit w a) e ∙ bit-zero a) ∙ and-true (bit word a)
+
+-- a step of more activities than there are
+pub stepped-fewer : (n word t : ℕ) (owed ends owed′ ends′ : List ℕ) → n ≤ 32 → Stepped 32 word t owed ends owed′ ends′
+    → Stepped n word t owed ends owed′ ends′
+stepped-fewer n word t owed ends owed′ ends′ few h = record {
+  sized = h .sized;
+  owed-less = λ a l. h .owed-less a (omega arith);
+  ends-next = λ a l. h .ends-next a (omega arith);
+}
 
 pub filled-none : (f : ℕ → ℕ) (l : List ℕ) → length l ≡ 32 → Filled 0 f l
 filled-none f l h = record { sized = h; filled = λ a k. absurd (omega arith) }

@@ -1,10 +1,11 @@
 -- A plan's bytes in front of its grid, and the grid's words read back.
 -- Assumes nothing.
-use Prim.Native.Nat.{ℕ, _+_, _-_, _*_}
-use mathlib.Core.Bool.{Bool, not}
+use Prim.Native.Nat.{ℕ, _+_, _-_, _*_, _<_}
+use mathlib.Core.Bool.{Bool, not, cond}
 use mathlib.Core.List.{List, _++_}
+use mathlib.Core.Path.{_≡_}
 use lib.Dec.{eqb, leb}
-use lib.ListN.{getD}
+use lib.ListN.{length, getD}
 use Rattle.schedule.specs.Bounded.{rows, bit, ones, total, greatest, least, lowest, _⇒_}
 use Rattle.schedule.specs.Fields.{field, bytes}
 use Rattle.schedule.specs.Model.{Model}
@@ -39,6 +40,11 @@ wordIn out at t = field out (at + 4 * t) 4
 -- "Start is the first active tick"
 unfoldable pub startIn : List ℕ → ℕ → ℕ → ℕ → ℕ
 startIn out at h a = lowest h (λ t. bit (wordIn out at t) a)
+
+-- the activities of a word start at tick t, in tables before and after
+pub record Entered (word t : ℕ) (starts starts′ : List ℕ) : Type 0 where
+  pub sized : length starts′ ≡ 32
+  pub entered : (a : ℕ) → a < 32 → getD starts′ a 0 ≡ cond (bit word a) t (getD starts a 0)
 
 -- "usage (all ones)"
 unfoldable pub usageIn : List ℕ → ℕ → ℕ → ℕ

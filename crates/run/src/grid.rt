@@ -1,5 +1,6 @@
 // The grid: the machine's words, tick by tick.
 use crate::machine;
+use crate::stretches;
 use crate::tables;
 use crate::tables::Column;
 ghost use Prim.Native.Nat.{_*_, _≤_};
@@ -33,9 +34,11 @@ pub(crate) fn fill_grid(s: &[u8], q: &[u8], grid: &mut [u8]) -> Left
     let befores = tables::before_masks(n, &priorities);
     let mut owed = tables::table(Column::Duration, n, s, q);
     let mut ends = [0u32; 32];
+    let mut stretch = stretches::unknown();
     let mut t = 0;
     while t < horizon {
-        let word = machine::tick(
+        stretch = stretches::at(
+            stretch,
             n,
             cores,
             &releases,
@@ -47,8 +50,8 @@ pub(crate) fn fill_grid(s: &[u8], q: &[u8], grid: &mut [u8]) -> Left
             &ends,
             t as u32,
         );
-        machine::step(n, word, t as u32, &mut owed, &mut ends);
-        fields::put32(grid, 4 * t, word);
+        machine::step(stretch.word, t as u32, &mut owed, &mut ends);
+        fields::put32(grid, 4 * t, stretch.word);
         t += 1;
     }
     Left { owed, ends }

@@ -18,6 +18,7 @@ mod finish;
 mod grid;
 mod machine;
 mod plan;
+mod stretches;
 mod tables;
 
 // The answer once the grid stands in the buffer: "42 and 43 set the plan's length of bytes to 0", a success writes the rest

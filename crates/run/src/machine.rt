@@ -165,40 +165,33 @@ pub(crate) fn tick(
 // ---- after a tick
 
 // "Each owes one less"
-fn owed_after(owes: u32, active: bool) -> u32
-    ensures { λ r. ⌜ r ≡ owes - cond active 1 0 ⌝ }
+fn lowered(owes: u32) -> u32
+    ensures { λ r. ⌜ r ≡ owes - 1 ⌝ }
 {
-    if active {
-        if 0 < owes { owes - 1 } else { 0 }
-    } else {
-        owes
-    }
+    if 0 < owes { owes - 1 } else { 0 }
 }
 
 // "and one that now owes nothing ends at t + 1"
-fn end_after(owes: u32, end: u32, active: bool, t: u32) -> u32
+fn end_after(owes: u32, end: u32, t: u32) -> u32
     requires { ⌜ t < 65536 ⌝ }
-    ensures { λ r. ⌜ r ≡ cond (active && eqb owes 1) (t + 1) end ⌝ }
+    ensures { λ r. ⌜ r ≡ cond (eqb owes 1) (t + 1) end ⌝ }
 {
-    if active {
-        if owes == 1 { t + 1 } else { end }
-    } else {
-        end
-    }
+    if owes == 1 { t + 1 } else { end }
 }
 
-// "Each owes one less, and one that now owes nothing ends at t + 1": the tables after a tick.
-pub(crate) fn step(n: usize, word: u32, t: u32, owed: &mut [u32; 32], ends: &mut [u32; 32])
-    requires { ⌜ (n ≤ 32) × (t < 65536) × (length (now owed) ≡ 32) × (length (now ends) ≡ 32) ⌝ }
-    ensures { λ _. ⌜ Stepped n word t (now (owed .entry)) (now (ends .entry)) (now (owed .exit)) (now (ends .exit)) ⌝ }
+// "Each owes one less, and one that now owes nothing ends at t + 1": the tables after a tick with this word.
+pub(crate) fn step(word: u32, t: u32, owed: &mut [u32; 32], ends: &mut [u32; 32])
+    requires { ⌜ (t < 65536) × (length (now owed) ≡ 32) × (length (now ends) ≡ 32) ⌝ }
+    ensures { λ _. ⌜ Stepped 32 word t (now (owed .entry)) (now (ends .entry)) (now (owed .exit)) (now (ends .exit)) ⌝ }
 {
-    let mut a = 0;
-    while a < n {
-        let active = bits::has(word, a as u32);
-        let owes = owed[a];
-        let end = ends[a];
-        owed[a] = owed_after(owes, active);
-        ends[a] = end_after(owes, end, active, t);
-        a += 1;
+    let mut rest = word;
+    while rest != 0 {
+        let a = bits::lowest(rest);
+        let at = a as usize;
+        let owes = owed[at];
+        let end = ends[at];
+        owed[at] = lowered(owes);
+        ends[at] = end_after(owes, end, t);
+        rest = bits::without(rest, a);
     }
 }

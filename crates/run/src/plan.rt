@@ -14,7 +14,7 @@ ghost use Rattle.schedule.specs.Answers.{lengthNeeded};
 ghost use Rattle.fields.specs.Put.{put};
 ghost use Rattle.run.specs.Tables.{Filled};
 ghost use Rattle.run.specs.Grid.{Runs, Finished};
-ghost use Rattle.run.specs.Front.{pairRows, headBytes, gridAt, startIn, frontIn};
+ghost use Rattle.run.specs.Front.{pairRows, headBytes, gridAt, startIn, frontIn, Entered};
 ghost use Rattle.run.specs.Outcome.{FrontFits};
 
 // ---- the grid
@@ -116,31 +116,32 @@ fn write_activities(at: usize, n: usize, starts: &[u32; 32], ends: &[u32; 32], o
     }
 }
 
-// "Start is the first active tick": where bit a is first set in the words of the grid, h where nowhere.
-fn first_active(out: &[u8], at: usize, h: usize, a: u32) -> u32
-    requires { ⌜ (at < 65536) × (h < 65536) ⌝ }
-    ensures { λ r. ⌜ r ≡ startIn (now (out .entry)) at h a ⌝ }
+// The activities of a word start at tick t.
+fn enter(word: u32, t: u32, starts: &mut [u32; 32])
+    requires { ⌜ length (now starts) ≡ 32 ⌝ }
+    ensures { λ _. ⌜ Entered word t (now (starts .entry)) (now (starts .exit)) ⌝ }
 {
-    let mut t = 0;
-    while t < h {
-        if bits::has(fields::be32(out, at + 4 * t), a) {
-            return t as u32;
-        }
-        t += 1;
+    let mut rest = word;
+    while rest != 0 {
+        let a = bits::lowest(rest);
+        starts[a as usize] = t;
+        rest = bits::without(rest, a);
     }
-    t as u32
 }
 
-// The starts of n activities.
-fn starts(out: &[u8], at: usize, h: usize, n: usize) -> [u32; 32]
-    requires { ⌜ (at < 65536) × (h < 65536) × (n ≤ 32) ⌝ }
-    ensures { λ r. ⌜ Filled n (startIn (now (out .entry)) at h) r ⌝ }
+// "Start is the first active tick": where each activity's bit is first set in the words of the grid, h where nowhere.
+fn starts(out: &[u8], at: usize, h: usize) -> [u32; 32]
+    requires { ⌜ (at < 65536) × (h < 65536) ⌝ }
+    ensures { λ r. ⌜ Filled 32 (startIn (now (out .entry)) at h) r ⌝ }
 {
-    let mut table = [0u32; 32];
-    let mut a = 0;
-    while a < n {
-        table[a] = first_active(out, at, h, a as u32);
-        a += 1;
+    let mut table = [h as u32; 32];
+    let mut seen: u32 = 0;
+    let mut t = 0;
+    while t < h {
+        let word = fields::be32(out, at + 4 * t);
+        enter(word & !seen, t as u32, &mut table);
+        seen = seen | word;
+        t += 1;
     }
     table
 }
@@ -154,7 +155,7 @@ pub(crate) fn write_front(s: &[u8], q: &[u8], ends: &[u32; 32], out: &mut [u8])
 {
     let sizes = records::model::counts(s);
     let n = sizes.activities as usize;
-    let firsts = starts(out, grid_at(s), sizes.horizon as usize, n);
+    let firsts = starts(out, grid_at(s), sizes.horizon as usize);
     write_head(out, sizes.threads, sizes.activities, sizes.horizon);
     write_threads(q, sizes.threads, out);
     write_activities(9 + 4 * (sizes.threads as usize), n, &firsts, ends, out);

@@ -1,10 +1,12 @@
-// Both checks and the run on the stored cases. CASES.md says what each case shows.
+// Both checks, the run and the held view on the stored cases. CASES.md says what each case shows.
 //
 // data/cases holds how many cases of the checks there are, then for each its model and its plan; then how many cases of
-// the run, and for each its model, its choice and the buffer that is lent, each behind its length. These numbers take 4
-// bytes each, big-endian. For each case a line with its number, then the lines that gridcheck or gridrun prints of it; of
-// a run also the buffer afterwards, byte by byte in decimal.
+// the run, and for each its model, its choice and the buffer that is lent; then how many cases of the view, and for each
+// its model, its plan and the tick, each record behind its length. These numbers take 4 bytes each, the tick 8,
+// big-endian. For each case a line with its number, then the lines that gridcheck or gridrun prints of it; of a run also
+// the buffer afterwards, byte by byte in decimal; of a view its word, in decimal, or past.
 use libc::STDOUT_FILENO;
+use schedule::WordAt;
 ghost use Rattle.io.specs.Counts.{Counts};
 
 // The next number of the file, 0 past its end.
@@ -85,6 +87,38 @@ fn next_run(fd: i32, number: u32) {
     print_run(&model[..m], &choice[..c], &mut out[..n]);
 }
 
+// The next tick of the file.
+fn next_tick(fd: i32) -> usize {
+    let high = next_number(fd) as usize;
+    let low = next_number(fd) as usize;
+    high * 4294967296 + low
+}
+
+// Prints what a view gives.
+fn print_word(found: WordAt) {
+    match found {
+        WordAt::Word(word) => {
+            io::write_all(STDOUT_FILENO, b"word ");
+            io::print_decimal(STDOUT_FILENO, word as u64);
+            io::write_all(STDOUT_FILENO, b"\n");
+        }
+        WordAt::Past => {
+            io::write_all(STDOUT_FILENO, b"past\n");
+        }
+    }
+}
+
+// Reads the next case of the view and prints what it gives.
+fn next_view(fd: i32, number: u32) {
+    let mut model = [0u8; 1024];
+    let mut plan = [0u8; 17189];
+    let m = next_record(fd, &mut model);
+    let p = next_record(fd, &mut plan);
+    let t = next_tick(fd);
+    print_number(number);
+    print_word(view::word_at(&model[..m], &plan[..p], t));
+}
+
 fn all_cases(fd: i32) {
     let count = next_number(fd);
     let mut number = 0;
@@ -103,6 +137,15 @@ fn all_runs(fd: i32) {
     }
 }
 
+fn all_views(fd: i32) {
+    let count = next_number(fd);
+    let mut number = 0;
+    while number < count {
+        next_view(fd, number);
+        number += 1;
+    }
+}
+
 fn main() {
     let fd = os::open_read(b"cases");
     if fd < 0 {
@@ -111,5 +154,6 @@ fn main() {
     }
     all_cases(fd);
     all_runs(fd);
+    all_views(fd);
     libc::close(fd);
 }

@@ -100,7 +100,7 @@ enum-told-10 : tie.Need-enum-told-10
 enum-told-10 c = search needs
 
 over-activities-requires-6 : tie.Need-over-activities-requires-6
-over-activities-requires-6 c κs = search needs
+over-activities-requires-6 c κs = c .before .before .before .before .before .before .before .before .before .before .before .before .before .before .before .before .before .pre
 
 enum-told-11 : tie.Need-enum-told-11
 enum-told-11 c = search needs

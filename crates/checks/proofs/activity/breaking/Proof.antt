@@ -1,38 +1,54 @@
 -- `checks::activity::breaking` meets its contract, rule by rule. Assumes nothing.
 use native.Mathlib.Omega.{arith}
-use mathlib.Core.Path.{_≡_, refl, _∙_}
+use mathlib.Core.Path.{_≡_, refl, ap, _∙_}
 use Rattle.schedule.specs.Model.{model}
 use Rattle.schedule.specs.Plan.{plan}
 use Rattle.schedule.specs.Checks.{deadlineRule, rule21, rule22, rule23, rule24, rule27}
+use Rattle.records.specs.declared.model.Sizes.{Sizes}
+use Rattle.records.specs.declared.model.ActivityRow.{ActivityRow}
+use Rattle.records.specs.Rows.{sizesOf, activityRowOf}
+use Rattle.laws.proofs.Steps.{zeros-at}
 use Rattle.checks.proofs.EfeTable.{horizon-lt, count-lt}
 use Rattle.checks.proofs.ActivityLaws.{flagged, count-test, span-test, eligible-test, temporal-mask, data-mask, start-lt}
 use borrow.Author.Needs.{needs}
 use Rattle.checks.proofs.activity.breaking.Statement.{statement}
 use Rattle.checks.proofs.activity.breaking.Tie as tie
 
-mul-count : tie.Need-mul-count
-mul-count c = omega (arith, c .before .before .pre .0 .few)
+activity-row-requires : tie.Need-activity-row-requires
+activity-row-requires c κs = search needs
 
-element-copy-out-count : tie.Need-element-copy-out-count
-element-copy-out-count c = omega (arith, c .before .before .pre .0 .few)
+counts-requires : tie.Need-counts-requires
+counts-requires c κs = search needs
 
-mul-finish : tie.Need-mul-finish
-mul-finish c = omega (arith, c .before .before .before .pre .0 .few)
+cast-n : tie.Need-cast-n
+cast-n c = search needs
 
-element-copy-out-finish : tie.Need-element-copy-out-finish
-element-copy-out-finish c = omega (arith, c .before .before .before .pre .0 .few)
+start-of-requires : tie.Need-start-of-requires
+start-of-requires c κs = search needs
 
 enum-told : tie.Need-enum-told
 enum-told c = search needs
 
 window-holds-requires : tie.Need-window-holds-requires
-window-holds-requires c κs = search needs
+window-holds-requires c κs =
+    let x = c .before .before .before .before .before .before .before .before .args in
+    let m = model (x .s .now) in
+    let p = plan (x .r .now) in
+    let tables = c .before .before .before .before .before .before .before .before .pre .0 in
+    let less = c .before .before .before .before .before .before .before .before .pre .1 in
+    tables .strays (x .a) less
 
 flag-requires : tie.Need-flag-requires
 flag-requires c κs = search needs
 
 enum-told-2 : tie.Need-enum-told-2
 enum-told-2 c = search needs
+
+mul-count-holds : tie.Need-mul-count-holds
+mul-count-holds c = omega (arith, c .before .before .before .before .before .before .before .before .pre .0 .few)
+
+element-copy-out-count-holds : tie.Need-element-copy-out-count-holds
+element-copy-out-count-holds c = omega (arith, c .before .before .before .before .before .before .before .before .pre .0 .few)
 
 count-holds-requires : tie.Need-count-holds-requires
 count-holds-requires c κs = search needs
@@ -52,21 +68,27 @@ flag-requires-3 c κs = search needs
 enum-told-4 : tie.Need-enum-told-4
 enum-told-4 c = search needs
 
-start-of-requires : tie.Need-start-of-requires
-start-of-requires c κs = search needs
+mul-span-holds : tie.Need-mul-span-holds
+mul-span-holds c = omega (arith, c .before .before .before .before .before .before .before .before .pre .0 .few)
 
-end-of-requires : tie.Need-end-of-requires
-end-of-requires c κs = search needs
+element-copy-out-span-holds : tie.Need-element-copy-out-span-holds
+element-copy-out-span-holds c = omega (arith, c .before .before .before .before .before .before .before .before .pre .0 .few)
+
+mul-span-holds-2 : tie.Need-mul-span-holds-2
+mul-span-holds-2 c = omega (arith, c .before .before .before .before .before .before .before .before .before .pre .0 .few)
+
+element-copy-out-span-holds-2 : tie.Need-element-copy-out-span-holds-2
+element-copy-out-span-holds-2 c = omega (arith, c .before .before .before .before .before .before .before .before .before .pre .0 .few)
 
 span-holds-requires : tie.Need-span-holds-requires
 span-holds-requires c κs =
-    let x = c .before .before .before .before .before .before .before .before .args in
+    let x = c .before .before .before .before .before .before .before .before .before .before .args in
     let m = model (x .s .now) in
     let p = plan (x .r .now) in
-    let tables = c .before .before .before .before .before .before .before .before .pre .0 in
-    let less = c .before .before .before .before .before .before .before .before .pre .1 in (
-      omega (arith, c .before .start-of .ensures, start-lt (x .r .now) (λ i _. c .before .before .before .before .before .before .shared-slice-known2 .given i .fits) (x .a)),
-      omega (arith, tables .count-ticks (x .a) less, count-lt m p (x .a) (horizon-lt (x .s .now) (λ i _. c .before .before .before .before .before .before .before .shared-slice-known .given i .fits))),
+    let tables = c .before .before .before .before .before .before .before .before .before .before .pre .0 in
+    let less = c .before .before .before .before .before .before .before .before .before .before .pre .1 in (
+      omega (arith, c .before .before .before .before .start-of .ensures, start-lt (x .r .now) (λ i _. c .before .before .before .before .before .before .before .before .shared-slice-known2 .given i .fits) (x .a)),
+      omega (arith, tables .count-ticks (x .a) less, count-lt m p (x .a) (horizon-lt (x .s .now) (λ i _. c .before .before .before .before .before .before .before .before .before .shared-slice-known .given i .fits))),
     )
 
 flag-requires-4 : tie.Need-flag-requires-4
@@ -76,29 +98,40 @@ enum-told-5 : tie.Need-enum-told-5
 enum-told-5 c = search needs
 
 early-mask-requires : tie.Need-early-mask-requires
-early-mask-requires c κs = c .before .before .before .before .before .before .pre .0 .few
+unfolding sizesOf
+early-mask-requires c κs = omega (arith, ap (λ (y : Sizes). y .activities) (c .before .before .before .before .counts .ensures), c .before .before .before .before .before .before .before .before .pre .0 .few)
 
 enum-told-6 : tie.Need-enum-told-6
 enum-told-6 c = search needs
 
 early-mask-requires-2 : tie.Need-early-mask-requires-2
-early-mask-requires-2 c κs = c .before .before .before .before .before .before .pre .0 .few
+unfolding sizesOf
+early-mask-requires-2 c κs = omega (arith, ap (λ (y : Sizes). y .activities) (c .before .before .before .before .before .counts .ensures), c .before .before .before .before .before .before .before .before .before .pre .0 .few)
 
 enum-told-7 : tie.Need-enum-told-7
 enum-told-7 c = search needs
 
-start-of-requires-2 : tie.Need-start-of-requires-2
-start-of-requires-2 c κs = search needs
+mul-eligible-holds : tie.Need-mul-eligible-holds
+mul-eligible-holds c = omega (arith, c .before .before .before .before .before .before .before .before .pre .0 .few)
+
+element-copy-out-eligible-holds : tie.Need-element-copy-out-eligible-holds
+element-copy-out-eligible-holds c = omega (arith, c .before .before .before .before .before .before .before .before .pre .0 .few)
+
+mul-eligible-holds-2 : tie.Need-mul-eligible-holds-2
+mul-eligible-holds-2 c = omega (arith, c .before .before .before .before .before .before .before .before .before .pre .0 .few)
+
+element-copy-out-eligible-holds-2 : tie.Need-element-copy-out-eligible-holds-2
+element-copy-out-eligible-holds-2 c = omega (arith, c .before .before .before .before .before .before .before .before .before .pre .0 .few)
 
 eligible-holds-requires : tie.Need-eligible-holds-requires
 eligible-holds-requires c κs =
-    let x = c .before .before .before .before .before .before .before .args in
+    let x = c .before .before .before .before .before .before .before .before .before .before .args in
     let m = model (x .s .now) in
     let p = plan (x .r .now) in
-    let tables = c .before .before .before .before .before .before .before .pre .0 in
-    let less = c .before .before .before .before .before .before .before .pre .1 in (
-      omega (arith, c .start-of2 .ensures, start-lt (x .r .now) (λ i _. c .before .before .before .before .before .shared-slice-known2 .given i .fits) (x .a)),
-      omega (arith, tables .count-ticks (x .a) less, count-lt m p (x .a) (horizon-lt (x .s .now) (λ i _. c .before .before .before .before .before .before .shared-slice-known .given i .fits))),
+    let tables = c .before .before .before .before .before .before .before .before .before .before .pre .0 in
+    let less = c .before .before .before .before .before .before .before .before .before .before .pre .1 in (
+      omega (arith, c .before .before .before .before .start-of .ensures, start-lt (x .r .now) (λ i _. c .before .before .before .before .before .before .before .before .shared-slice-known2 .given i .fits) (x .a)),
+      omega (arith, tables .count-ticks (x .a) less, count-lt m p (x .a) (horizon-lt (x .s .now) (λ i _. c .before .before .before .before .before .before .before .before .before .shared-slice-known .given i .fits))),
     )
 
 flag-requires-5 : tie.Need-flag-requires-5
@@ -107,97 +140,105 @@ flag-requires-5 c κs = search needs
 returns : tie.Need-returns
 unfolding rule21
 returns c =
-    let x = c .before .before .before .before .before .before .before .before .args in
+    let x = c .before .before .before .before .before .before .before .before .before .before .args in
     let m = model (x .s .now) in
     let p = plan (x .r .now) in
-    let tables = c .before .before .before .before .before .before .before .before .pre .0 in
-    let less = c .before .before .before .before .before .before .before .before .pre .1 in
     rw (c .before .before .enum-told .given .1) (flagged (rule21 m p) (x .a) _ _ refl (c .flag .ensures) (c .before .window-holds .ensures))
 
 returns-2 : tie.Need-returns-2
 unfolding rule22
 returns-2 c =
-    let x = c .before .before .before .before .before .before .before .before .args in
+    let x = c .before .before .before .before .before .before .before .before .before .before .before .args in
     let m = model (x .s .now) in
     let p = plan (x .r .now) in
-    let tables = c .before .before .before .before .before .before .before .before .pre .0 in
-    let less = c .before .before .before .before .before .before .before .before .pre .1 in
-    rw (c .before .before .enum-told2 .given .1)
+    let tables = c .before .before .before .before .before .before .before .before .before .before .before .pre .0 in
+    let less = c .before .before .before .before .before .before .before .before .before .before .before .pre .1 in
+    rw (c .before .before .before .enum-told2 .given .1)
     (flagged (rule22 m p) (x .a) _ _ refl (c .flag2 .ensures)
     (count-test m p (x .a) _ _ (c .before .count-holds .ensures) (tables .count-ticks (x .a) less)))
 
 returns-3 : tie.Need-returns-3
 unfolding rule23 deadlineRule
 returns-3 c =
-    let x = c .before .before .before .before .before .before .before .before .args in
+    let x = c .before .before .before .before .before .before .before .before .before .before .args in
     let m = model (x .s .now) in
     let p = plan (x .r .now) in
-    let tables = c .before .before .before .before .before .before .before .before .pre .0 in
-    let less = c .before .before .before .before .before .before .before .before .pre .1 in
     rw (c .before .before .enum-told3 .given .1) (flagged (rule23 m p) (x .a) _ _ refl (c .flag3 .ensures) (c .before .deadline-holds .ensures))
 
 returns-4 : tie.Need-returns-4
 unfolding rule24
 returns-4 c =
-    let x = c .before .before .before .before .before .before .before .before .before .before .args in
+    let x = c .before .before .before .before .before .before .before .before .before .before .before .before .args in
     let m = model (x .s .now) in
     let p = plan (x .r .now) in
-    let tables = c .before .before .before .before .before .before .before .before .before .before .pre .0 in
-    let less = c .before .before .before .before .before .before .before .before .before .before .pre .1 in
+    let tables = c .before .before .before .before .before .before .before .before .before .before .before .before .pre .0 in
+    let less = c .before .before .before .before .before .before .before .before .before .before .before .before .pre .1 in
     rw (c .before .before .before .before .enum-told4 .given .1)
     (flagged (rule24 m p) (x .a) _ _ refl (c .flag4 .ensures)
-    (span-test m p (x .a) _ _ _ _ (c .before .span-holds .ensures) (c .before .before .before .start-of .ensures) (tables .count-ticks (x .a) less) (c .before .before .end-of .ensures)))
+    (span-test m p (x .a) _ _ _ _ (c .before .span-holds .ensures) (c .before .before .before .before .before .before .start-of .ensures) (tables .count-ticks (x .a) less) (tables .end-ticks (x .a) less)))
 
 returns-5 : tie.Need-returns-5
+unfolding sizesOf activityRowOf
 returns-5 c =
-    let x = c .before .before .before .before .before .before .before .args in
-    let m = model (x .s .now) in
-    let p = plan (x .r .now) in
-    let tables = c .before .before .before .before .before .before .before .pre .0 in
-    let less = c .before .before .before .before .before .before .before .pre .1 in
-    rw (c .before .enum-told5 .given .1) (c .early-mask .ensures ∙ temporal-mask m p (x .a))
-
-returns-6 : tie.Need-returns-6
-returns-6 c =
-    let x = c .before .before .before .before .before .before .before .args in
-    let m = model (x .s .now) in
-    let p = plan (x .r .now) in
-    let tables = c .before .before .before .before .before .before .before .pre .0 in
-    let less = c .before .before .before .before .before .before .before .pre .1 in
-    rw (c .before .enum-told6 .given .1) (c .early-mask2 .ensures ∙ data-mask m p (x .a))
-
-returns-7 : tie.Need-returns-7
-unfolding rule27
-returns-7 c =
     let x = c .before .before .before .before .before .before .before .before .before .args in
     let m = model (x .s .now) in
     let p = plan (x .r .now) in
     let tables = c .before .before .before .before .before .before .before .before .before .pre .0 in
     let less = c .before .before .before .before .before .before .before .before .before .pre .1 in
-    rw (c .before .before .before .enum-told7 .given .1)
+    rw (c .before .enum-told5 .given .1)
+    (c .early-mask .ensures
+    ∙ temporal-mask m p (x .ends .now) (x .delays .now) (x .a) _ _ _ (ap (λ (y : ActivityRow). y .«temporal_mask») (c .before .before .before .before .before .before .activity-row .ensures))
+    (c .before .before .before .start-of .ensures) (ap (λ (y : Sizes). y .activities) (c .before .before .before .before .before .counts .ensures)) (tables .end-ticks) (tables .delay-ticks))
+
+returns-6 : tie.Need-returns-6
+unfolding sizesOf activityRowOf
+returns-6 c =
+    let x = c .before .before .before .before .before .before .before .before .before .before .args in
+    let m = model (x .s .now) in
+    let p = plan (x .r .now) in
+    let tables = c .before .before .before .before .before .before .before .before .before .before .pre .0 in
+    let less = c .before .before .before .before .before .before .before .before .before .before .pre .1 in
+    rw (c .before .before .enum-told6 .given .1)
+    (c .early-mask2 .ensures
+    ∙ data-mask m p (x .ends .now) _ (x .a) _ _ _ (ap (λ (y : ActivityRow). y .«data_mask») (c .before .before .before .before .before .before .before .activity-row .ensures))
+    (c .before .before .before .before .start-of .ensures) (ap (λ (y : Sizes). y .activities) (c .before .before .before .before .before .before .counts .ensures)) (tables .end-ticks) (zeros-at 32))
+
+returns-7 : tie.Need-returns-7
+unfolding rule27
+returns-7 c =
+    let x = c .before .before .before .before .before .before .before .before .before .before .before .before .args in
+    let m = model (x .s .now) in
+    let p = plan (x .r .now) in
+    let tables = c .before .before .before .before .before .before .before .before .before .before .before .before .pre .0 in
+    let less = c .before .before .before .before .before .before .before .before .before .before .before .before .pre .1 in
+    rw (c .before .before .before .before .enum-told7 .given .1)
     (flagged (rule27 m p) (x .a) _ _ refl (c .flag5 .ensures)
-    (eligible-test m p (x .a) _ _ _ _ (c .before .eligible-holds .ensures) (c .before .before .start-of2 .ensures) (tables .count-ticks (x .a) less) (tables .finish-ticks (x .a) less)))
+    (eligible-test m p (x .a) _ _ _ _ (c .before .eligible-holds .ensures) (c .before .before .before .before .before .before .start-of .ensures) (tables .count-ticks (x .a) less) (tables .finish-ticks (x .a) less)))
 
 pub breaking-spec : {M : Type 1} → statement M
 breaking-spec =
     tie.close
     (tie.spec
-    mul-count
-    element-copy-out-count
-    mul-finish
-    element-copy-out-finish
+    activity-row-requires
+    counts-requires
+    cast-n
+    start-of-requires
     enum-told
     window-holds-requires
     flag-requires
     enum-told-2
+    mul-count-holds
+    element-copy-out-count-holds
     count-holds-requires
     flag-requires-2
     enum-told-3
     deadline-holds-requires
     flag-requires-3
     enum-told-4
-    start-of-requires
-    end-of-requires
+    mul-span-holds
+    element-copy-out-span-holds
+    mul-span-holds-2
+    element-copy-out-span-holds-2
     span-holds-requires
     flag-requires-4
     enum-told-5
@@ -205,7 +246,10 @@ breaking-spec =
     enum-told-6
     early-mask-requires-2
     enum-told-7
-    start-of-requires-2
+    mul-eligible-holds
+    element-copy-out-eligible-holds
+    mul-eligible-holds-2
+    element-copy-out-eligible-holds-2
     eligible-holds-requires
     flag-requires-5
     returns

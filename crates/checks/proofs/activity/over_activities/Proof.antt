@@ -17,12 +17,12 @@ use Rattle.checks.proofs.activity.over_activities.Statement.{statement}
 use Rattle.checks.proofs.activity.over_activities.Tie as tie
 
 abbrev Inv-loop : tie.InvT-loop
-Inv-loop rule s r counts finishes n a₀ a =
-    (a ≤ n) × (n ≡ model s .activities) × Counted (model s) (plan r) counts finishes
+Inv-loop rule s r outside counts finishes ends delays n a₀ a =
+    (a ≤ n) × (n ≡ model s .activities) × Counted (model s) (plan r) outside counts finishes ends delays
     × ClearTo (activityRule rule (model s) (plan r)) a
 
 abbrev μ-loop : tie.MeasureT-loop
-μ-loop rule s r counts finishes n a₀ a = n - a
+μ-loop rule s r outside counts finishes ends delays n a₀ a = n - a
 
 counts-requires : tie.Need-counts-requires Inv-loop μ-loop
 counts-requires c κs = search needs

@@ -1,12 +1,16 @@
 -- `checks::activity::window_holds` meets its contract, by the tests in turn. Assumes nothing.
-use mathlib.Core.Path.{_≡_, sym, ap, _∙_}
+use Prim.Native.Nat.{_-_}
+use mathlib.Core.Path.{_≡_, sym, ap, ap₂, _∙_}
+use lib.Dec.{leb, ltb}
 use borrow.Author.Tests.{lt-ltb, le-ltb, le-leb, lt-leb, not-true, not-false}
+use Rattle.schedule.specs.Bounded.{bit}
 use Rattle.schedule.specs.Model.{model}
-use Rattle.schedule.specs.Plan.{plan}
+use Rattle.schedule.specs.Plan.{plan, active}
 use Rattle.schedule.specs.Checks.{window}
 use Rattle.records.specs.declared.plan.Span.{Span}
 use Rattle.records.specs.declared.model.Sizes.{Sizes}
 use Rattle.records.specs.Rows.{spanOf, sizesOf}
+use Rattle.checks.proofs.ActivityLaws.{window-outside}
 use borrow.Author.Needs.{needs}
 use Rattle.checks.proofs.activity.window_holds.Statement.{statement}
 use Rattle.checks.proofs.activity.window_holds.Tie as tie
@@ -86,28 +90,24 @@ returns-4 c =
       sym (c .before .has2 .ensures) ∙ not-true _ (c .if4 .taken),
     )
 
-none-outside-requires : tie.Need-none-outside-requires
-none-outside-requires c κs = search needs
+has-requires-3 : tie.Need-has-requires-3
+has-requires-3 c κs = search needs
 
 returns-5 : tie.Need-returns-5
-unfolding window spanOf sizesOf
+unfolding spanOf sizesOf
 returns-5 c =
     let x = c .before .before .before .before .before .before .before .before .before .before .before .before .before .args in
-    let start : c .before .before .before .before .before .before .before .before .before .before .activity-row .result .start ≡ plan (x .r .now) .start (x .a) = ap (λ (y : Span). y .start) (c .before .before .before .before .before .before .before .before .before .before .activity-row .ensures) in
-    let end : c .before .before .before .before .before .before .before .before .before .before .activity-row .result .end ≡ plan (x .r .now) .end (x .a) = ap (λ (y : Span). y .end) (c .before .before .before .before .before .before .before .before .before .before .activity-row .ensures) in
+    let p = plan (x .r .now) in
+    let row = c .before .before .before .before .before .before .before .before .before .before .activity-row .ensures in
+    let start : c .before .before .before .before .before .before .before .before .before .before .activity-row .result .start ≡ p .start (x .a) = ap (λ (y : Span). y .start) row in
+    let end : c .before .before .before .before .before .before .before .before .before .before .activity-row .result .end ≡ p .end (x .a) = ap (λ (y : Span). y .end) row in
     let horizon : c .before .before .before .before .before .before .before .before .before .counts .result .horizon ≡ model (x .s .now) .horizon = ap (λ (y : Sizes). y .horizon) (c .before .before .before .before .before .before .before .before .before .counts .ensures) in
-    simp (
-      ← start,
-      ← end,
-      ← horizon,
-      lt-ltb _ _ (c .before .before .before .before .before .before .before .before .if1 .left),
-      le-leb _ _ (c .before .before .before .before .before .before .before .if2 .left),
-      ← c .before .before .before .before .before .before .word .ensures,
-      sym (c .before .before .before .before .before .has .ensures) ∙ not-false _ (c .before .before .before .before .if3 .left),
-      ← c .before .before .before .word2 .ensures,
-      sym (c .before .before .has2 .ensures) ∙ not-false _ (c .before .if4 .left),
-    )
-    (c .none-outside .ensures)
+    window-outside (model (x .s .now)) p (x .a) (c .has3 .result)
+    (sym (ap₂ ltb start end) ∙ lt-ltb _ _ (c .before .before .before .before .before .before .before .before .if1 .left))
+    (sym (ap₂ leb end horizon) ∙ le-leb _ _ (c .before .before .before .before .before .before .before .if2 .left))
+    (ap (λ t. active p t (x .a)) (sym start) ∙ sym (ap (λ w. bit w (x .a)) (c .before .before .before .before .before .before .word .ensures)) ∙ sym (c .before .before .before .before .before .has .ensures) ∙ not-false _ (c .before .before .before .before .if3 .left))
+    (ap (λ t. active p (t - 1) (x .a)) (sym end) ∙ sym (ap (λ w. bit w (x .a)) (c .before .before .before .word2 .ensures)) ∙ sym (c .before .before .has2 .ensures) ∙ not-false _ (c .before .if4 .left))
+    (c .has3 .ensures ∙ c .before .before .before .before .before .before .before .before .before .before .before .before .before .pre)
 
 pub window-holds-spec : {M : Type 1} → statement M
 window-holds-spec =
@@ -124,5 +124,5 @@ window-holds-spec =
     word-requires-2
     has-requires-2
     returns-4
-    none-outside-requires
+    has-requires-3
     returns-5)

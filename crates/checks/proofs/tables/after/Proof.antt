@@ -1,6 +1,6 @@
 -- `checks::tables::after` meets its contract: `latest` is the latest over the predecessors passed. Assumes nothing.
-use Prim.Native.Nat.{ℕ, _+_, _≤_, _-_, max}
 use native.Mathlib.Omega.{arith}
+use Prim.Native.Nat.{ℕ, _+_, _≤_, _-_, max}
 use mathlib.Core.Bool.{cond}
 use mathlib.Core.Path.{_≡_, sym, ap, ap₂, _∙_}
 use lib.ListN.{getD}
@@ -8,28 +8,26 @@ use Rattle.schedule.specs.Bounded.{bit, greatest}
 use Rattle.schedule.specs.Model.{model}
 use Rattle.records.specs.declared.model.ActivityRow.{ActivityRow}
 use Rattle.records.specs.Rows.{activityRowOf}
-use Rattle.checks.specs.Tables as tables
 use Rattle.laws.proofs.Steps.{greatest-next, greatest-start}
+use Rattle.checks.specs.Tables as tables
+use Rattle.checks.proofs.EfeTable.{delay-lt, term-reads}
 use borrow.Author.Needs.{needs}
 use Rattle.checks.proofs.tables.after.Statement.{statement}
 use Rattle.checks.proofs.tables.after.Tie as tie
 
 abbrev Inv-loop : tie.InvT-loop
-Inv-loop s n done temporal by-data latest₀ b₀ latest b =
+Inv-loop s n delays done temporal by-data latest₀ b₀ latest b =
     (b ≤ n)
     × (latest ≡ greatest b (λ i. cond (bit temporal i) (getD done i 0 + model s .delay i) (cond (bit by-data i) (getD done i 0) 0)))
 
 abbrev μ-loop : tie.MeasureT-loop
-μ-loop s n done temporal by-data latest₀ b₀ latest b = n - b
+μ-loop s n delays done temporal by-data latest₀ b₀ latest b = n - b
 
 activity-row-requires : tie.Need-activity-row-requires Inv-loop μ-loop
 activity-row-requires c κs = search needs
 
 loop-holds : tie.Need-loop-holds Inv-loop μ-loop
 loop-holds c = (omega arith, sym (greatest-start _))
-
-activity-row-requires-2 : tie.Need-activity-row-requires-2 Inv-loop μ-loop
-activity-row-requires-2 c κs = search needs
 
 cast-at : tie.Need-cast-at Inv-loop μ-loop
 cast-at c = omega arith
@@ -52,8 +50,21 @@ mul-let-go c = omega arith
 element-copy-out-let-go : tie.Need-element-copy-out-let-go Inv-loop μ-loop
 element-copy-out-let-go c = omega arith
 
+mul-let-go-2 : tie.Need-mul-let-go-2 Inv-loop μ-loop
+mul-let-go-2 c = omega arith
+
+element-copy-out-let-go-2 : tie.Need-element-copy-out-let-go-2 Inv-loop μ-loop
+element-copy-out-let-go-2 c = omega arith
+
 let-go-requires : tie.Need-let-go-requires Inv-loop μ-loop
-let-go-requires c κs = c .before .before .before .before .before .before .before .before .pre .1 (c .before .before .before .before .before .loop .b) (c .before .before .before .before .loop-test .taken)
+let-go-requires c κs =
+    let l = c .before .before .before .before .before .loop in
+    let x = c .before .before .before .before .before .before .before .before .args in
+    let pre = c .before .before .before .before .before .before .before .before .pre in
+    let less = c .before .before .before .before .loop-test .taken in (
+      pre .1 .1 (l .b) less,
+      omega (arith, pre .1 .0 (l .b) less, delay-lt (x .s .now) (λ i _. c .before .before .before .before .before .before .before .shared-slice-known .given i .fits) (l .b)),
+    )
 
 larger-requires : tie.Need-larger-requires Inv-loop μ-loop
 larger-requires c κs = search needs
@@ -65,16 +76,18 @@ loop-less : tie.Need-loop-less Inv-loop μ-loop
 loop-less c = omega arith
 
 loop-again : tie.Need-loop-again Inv-loop μ-loop
-unfolding activityRowOf
 loop-again c =
     let l = c .before .before .before .before .before .before .before .loop in
-    let x = c .before .before .before .before .before .before .before .before .before .before .args in
-    let delay : c .before .before .before .before .before .activity-row2 .result .delay ≡ model (x .s .now) .delay (l .b) =
-    ap (λ row. row .delay) (c .before .before .before .before .before .activity-row2 .ensures) in
-    let free = c .before .let-go .ensures in
-    let test = c .before .before .before .before .has .ensures in
-    let test2 = c .before .before .before .has2 .ensures in
-    (omega arith, c .larger .ensures ∙ ap₂ max (l .inv .1) (cc) ∙ sym (greatest-next (l .b) _))
+    let pre = c .before .before .before .before .before .before .before .before .before .before .pre in
+    let x = c .before .before .before .before .before .before .before .before .before .before .args in (
+      omega arith,
+      c .larger .ensures
+          ∙ ap₂ max (l .inv .1)
+          (term-reads _ _ (l .b) (getD (x .done .now) (l .b) 0) (getD (x .delays .now) (l .b) 0) _ _ _ _ (c .before .let-go .ensures)
+          (c .before .before .before .before .before .has .ensures) (c .before .before .before .before .has2 .ensures)
+          (pre .1 .0 (l .b) (c .before .before .before .before .before .before .loop-test .taken)))
+          ∙ sym (greatest-next (l .b) _),
+    )
 
 returns : tie.Need-returns Inv-loop μ-loop
 unfolding activityRowOf tables.after
@@ -95,7 +108,6 @@ after-spec =
     μ-loop
     activity-row-requires
     loop-holds
-    activity-row-requires-2
     cast-at
     cast-has
     has-requires
@@ -103,6 +115,8 @@ after-spec =
     has-requires-2
     mul-let-go
     element-copy-out-let-go
+    mul-let-go-2
+    element-copy-out-let-go-2
     let-go-requires
     larger-requires
     add-b

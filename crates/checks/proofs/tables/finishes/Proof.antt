@@ -16,12 +16,12 @@ use Rattle.checks.proofs.tables.finishes.Statement.{statement}
 use Rattle.checks.proofs.tables.finishes.Tie as tie
 
 abbrev Inv-loop : tie.InvT-loop
-Inv-loop s r counts n table₀ a₀ table a =
+Inv-loop s r counts delays n table₀ a₀ table a =
     (a ≤ n) × (n ≡ model s .activities) × (length table ≡ 32) × ((i : ℕ) → getD table i 0 ≤ 131072 * a)
     × ((i : ℕ) → i < a → getD table i 0 ≡ finishOf (model s) (plan r) i) × (model s .activities ≤ 32)
 
 abbrev μ-loop : tie.MeasureT-loop
-μ-loop s r counts n table₀ a₀ table a = n - a
+μ-loop s r counts delays n table₀ a₀ table a = n - a
 
 counts-requires : tie.Need-counts-requires Inv-loop μ-loop
 counts-requires c κs = search needs
@@ -43,7 +43,8 @@ cast-at c = omega arith
 earliest-requires : tie.Need-earliest-requires Inv-loop μ-loop
 earliest-requires c κs =
     let l = c .before .before .loop in
-    (omega (arith, l .inv .1, l .inv .5), λ b _. omega (arith, l .inv .3 b, l .inv .1, l .inv .5, l .inv .0))
+    let pre = c .before .before .before .before .before .before .pre in
+    (omega (arith, l .inv .1, l .inv .5), (λ b h. pre .1 .1 .1 b (omega (arith, h, l .inv .1)), λ b _. omega (arith, l .inv .3 b, l .inv .1, l .inv .5, l .inv .0)))
 
 mul-table : tie.Need-mul-table Inv-loop μ-loop
 mul-table c = search needs
@@ -58,7 +59,7 @@ add-table c =
     let pre = c .before .before .before .before .before .before .before .before .pre in
     let s-bytes : Bytes (x .s .now) = λ i _. c .before .before .before .before .before .before .before .shared-slice-known .given i .fits in
     let r-bytes : Bytes (x .r .now) = λ i _. c .before .before .before .before .before .before .shared-slice-known2 .given i .fits in
-    let count = pre .1 .1 (l .a) (omega (arith, l .inv .1, c .before .before .before .loop-test .taken)) in
+    let count = pre .1 .1 .0 (l .a) (omega (arith, l .inv .1, c .before .before .before .loop-test .taken)) in
     let bound = finish-bound (model (x .s .now)) (plan (x .r .now)) (pre .1 .0) (delay-lt (x .s .now) s-bytes)
     (release-lt (x .r .now) r-bytes) (horizon-lt (x .s .now) s-bytes) (l .table) (l .a) _ _ _ (131072 * l .a) (l .inv .3)
     (c .before .earliest .ensures) count in
@@ -83,7 +84,7 @@ loop-again c =
     let pre = c .before .before .before .before .before .before .before .before .pre in
     let s-bytes : Bytes (x .s .now) = λ i _. c .before .before .before .before .before .before .before .shared-slice-known .given i .fits in
     let r-bytes : Bytes (x .r .now) = λ i _. c .before .before .before .before .before .before .shared-slice-known2 .given i .fits in
-    let count = pre .1 .1 (l .a) (omega (arith, l .inv .1, c .before .before .before .loop-test .taken)) in
+    let count = pre .1 .1 .0 (l .a) (omega (arith, l .inv .1, c .before .before .before .loop-test .taken)) in
     let bound = finish-bound (model (x .s .now)) (plan (x .r .now)) (pre .1 .0) (delay-lt (x .s .now) s-bytes)
     (release-lt (x .r .now) r-bytes) (horizon-lt (x .s .now) s-bytes) (l .table) (l .a) _ _ _ (131072 * l .a) (l .inv .3)
     (c .before .earliest .ensures) count in (

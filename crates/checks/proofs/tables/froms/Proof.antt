@@ -13,12 +13,12 @@ use Rattle.checks.proofs.tables.froms.Statement.{statement}
 use Rattle.checks.proofs.tables.froms.Tie as tie
 
 abbrev Inv-loop : tie.InvT-loop
-Inv-loop s finishes counts ends n table₀ a₀ table a =
+Inv-loop s finishes counts ends delays n table₀ a₀ table a =
     (a ≤ n) × (n ≡ model s .activities) × (length table ≡ 32)
     × ((i : ℕ) → i < a → getD table i 0 ≡ fromOf (model s) finishes counts ends i) × (model s .activities ≤ 32)
 
 abbrev μ-loop : tie.MeasureT-loop
-μ-loop s finishes counts ends n table₀ a₀ table a = n - a
+μ-loop s finishes counts ends delays n table₀ a₀ table a = n - a
 
 counts-requires : tie.Need-counts-requires Inv-loop μ-loop
 counts-requires c κs = search needs
@@ -45,13 +45,16 @@ element-copy-out-larger-2 c = omega arith
 sub-larger : tie.Need-sub-larger Inv-loop μ-loop
 sub-larger c =
     let l = c .before .before .before .loop in
-    c .before .before .before .before .before .before .pre .1 .1 (l .a) (omega (arith, l .inv .1, c .before .before .loop-test .taken))
+    c .before .before .before .before .before .before .pre .1 .1 .0 (l .a) (omega (arith, l .inv .1, c .before .before .loop-test .taken))
 
 after-requires : tie.Need-after-requires Inv-loop μ-loop
 after-requires c κs =
     let l = c .before .before .before .loop in (
       omega (arith, l .inv .1, l .inv .4),
-      λ b h. c .before .before .before .before .before .before .pre .1 .0 b (omega (arith, h, l .inv .1)),
+      (
+        λ b h. c .before .before .before .before .before .before .pre .1 .1 .1 b (omega (arith, h, l .inv .1)),
+        λ b h. c .before .before .before .before .before .before .pre .1 .0 b (omega (arith, h, l .inv .1)),
+      ),
     )
 
 larger-requires : tie.Need-larger-requires Inv-loop μ-loop

@@ -8,18 +8,18 @@ use Rattle.schedule.specs.Model.{model}
 use Rattle.schedule.specs.Plan.{plan}
 use Rattle.records.specs.declared.model.Sizes.{Sizes}
 use Rattle.records.specs.Rows.{sizesOf}
-use Rattle.checks.specs.Tables.{entryOf}
+use Rattle.checks.specs.Tables.{columnOf}
 use Rattle.laws.proofs.Steps.{table-next}
 use Rattle.checks.proofs.tables.tabulate.Statement.{statement}
 use Rattle.checks.proofs.tables.tabulate.Tie as tie
 
 abbrev Inv-loop : tie.InvT-loop
-Inv-loop what s r n table₀ a₀ table a =
+Inv-loop column s r n table₀ a₀ table a =
     (a ≤ n) × (n ≡ model s .activities) × (model s .activities ≤ 32) × (length table ≡ 32)
-    × ((i : ℕ) → i < a → getD table i 0 ≡ entryOf what (model s) (plan r) i)
+    × ((i : ℕ) → i < a → getD table i 0 ≡ columnOf column (model s) (plan r) i)
 
 abbrev μ-loop : tie.MeasureT-loop
-μ-loop what s r n table₀ a₀ table a = n - a
+μ-loop column s r n table₀ a₀ table a = n - a
 
 counts-requires : tie.Need-counts-requires Inv-loop μ-loop
 counts-requires c κs = search needs
@@ -29,7 +29,7 @@ unfolding sizesOf
 loop-holds c = (omega arith, ap (λ (y : Sizes). y .activities) (c .counts .ensures), c .before .before .before .pre, refl, λ i l. absurd (omega arith))
 
 value-requires : tie.Need-value-requires Inv-loop μ-loop
-value-requires c κs = c .before .loop .inv .2
+value-requires c κs = search needs
 
 cast-table : tie.Need-cast-table Inv-loop μ-loop
 cast-table c = omega arith
@@ -54,7 +54,7 @@ loop-again c =
       l .inv .1,
       l .inv .2,
       simp length-set (l .inv .3),
-      table-next (l .table) (l .a) (c .value .result) (entryOf (x .what) (model (x .s .now)) (plan (x .r .now))) (omega (arith, l .inv .2, l .inv .3)) (c .value .ensures) (l .inv .4),
+      table-next (l .table) (l .a) (c .value .result) (columnOf (x .column) (model (x .s .now)) (plan (x .r .now))) (omega (arith, l .inv .2, l .inv .3)) (c .value .ensures) (l .inv .4),
     )
 
 returns : tie.Need-returns Inv-loop μ-loop

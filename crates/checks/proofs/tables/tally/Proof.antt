@@ -1,17 +1,100 @@
--- `checks::tables::tally` meets its contract, by the two cases. Assumes nothing.
-use mathlib.Core.Path.{sym, _∙_}
+-- `checks::tables::tally` meets its contract: what is counted and what is left of the word come to the same. Assumes nothing.
+use native.Mathlib.Omega.{arith}
+use Prim.Native.Nat.{ℕ, _+_, _^_, _<_}
+use mathlib.Core.Bool.{cond}
+use mathlib.Core.Path.{_≡_, refl, _∙_}
+use lib.ListN.{length, getD, length-set}
+use Rattle.schedule.specs.Bounded.{bit}
+use Rattle.bits.proofs.Apart.{lowest-lt, rest-less}
+use Rattle.checks.proofs.WordLoops.{at-most-one, none-counted, tally-next}
 use borrow.Author.Needs.{needs}
 use Rattle.checks.proofs.tables.tally.Statement.{statement}
 use Rattle.checks.proofs.tables.tally.Tie as tie
 
-has-requires : tie.Need-has-requires
-has-requires c κs = search needs
+abbrev Inv-loop : tie.InvT-loop
+Inv-loop word counts₀ rest₀ counts rest =
+    (rest < 2 ^ 32) × (length counts ≡ 32)
+    × ((i : ℕ) → i < 32 → getD counts i 0 + cond (bit rest i) 1 0 ≡ getD counts₀ i 0 + cond (bit word i) 1 0)
 
-returns : tie.Need-returns
-returns c = simp (sym (c .before .has .ensures) ∙ c .if1 .taken)
+abbrev μ-loop : tie.MeasureT-loop
+μ-loop word counts₀ rest₀ counts rest = rest
 
-returns-2 : tie.Need-returns-2
-returns-2 c = simp (sym (c .before .has .ensures) ∙ c .if1 .left)
+loop-holds : tie.Need-loop-holds Inv-loop μ-loop
+loop-holds c = (omega arith, c .pre .0, λ i l. refl)
+
+lowest-requires : tie.Need-lowest-requires Inv-loop μ-loop
+lowest-requires c κs = search needs
+
+cast-counts : tie.Need-cast-counts Inv-loop μ-loop
+cast-counts c = search needs
+
+mul-counts : tie.Need-mul-counts Inv-loop μ-loop
+mul-counts c =
+    let l = c .before .before .loop in
+    omega (arith, l .inv .1, lowest-lt (l .rest) _ (l .inv .0) (c .before .loop-test .taken) (c .lowest .ensures))
+
+element-copy-out-counts : tie.Need-element-copy-out-counts Inv-loop μ-loop
+element-copy-out-counts c =
+    let l = c .before .before .loop in
+    omega (arith, l .inv .1, lowest-lt (l .rest) _ (l .inv .0) (c .before .loop-test .taken) (c .lowest .ensures))
+
+add-counts : tie.Need-add-counts Inv-loop μ-loop
+add-counts c =
+    let l = c .before .before .before .loop in
+    let low = lowest-lt (l .rest) _ (l .inv .0) (c .before .before .loop-test .taken) (c .before .lowest .ensures) in
+    omega (
+      arith,
+      l .inv .2 (c .before .lowest .result) low,
+      c .before .before .before .before .pre .1 (c .before .lowest .result),
+      at-most-one (bit (c .before .before .before .before .args .word) (c .before .lowest .result)),
+    )
+
+element-write-counts : tie.Need-element-write-counts Inv-loop μ-loop
+element-write-counts c =
+    let l = c .before .before .before .loop in
+    omega (arith, l .inv .1, lowest-lt (l .rest) _ (l .inv .0) (c .before .before .loop-test .taken) (c .before .lowest .ensures))
+
+without-requires : tie.Need-without-requires Inv-loop μ-loop
+without-requires c κs = search needs
+
+loop-less : tie.Need-loop-less Inv-loop μ-loop
+loop-less c =
+    let l = c .before .before .before .before .loop in
+    omega (arith, c .without .ensures, rest-less (l .rest) _ (l .inv .0) (c .before .before .before .loop-test .taken) (c .before .before .lowest .ensures))
+
+loop-again : tie.Need-loop-again Inv-loop μ-loop
+loop-again c =
+    let l = c .before .before .before .before .loop in (
+      c .without .ok,
+      simp length-set (l .inv .1),
+      λ i h.
+          rw (c .without .ensures)
+          (tally-next (l .rest) _ (l .inv .0) (c .before .before .before .loop-test .taken) (c .before .before .lowest .ensures) (l .counts) (l .inv .1) i h
+          ∙ l .inv .2 i h),
+    )
+
+returns : tie.Need-returns Inv-loop μ-loop
+returns c =
+    let l = c .before .loop in
+    record {
+      sized = l .inv .1;
+      one-more = λ i h. omega (arith, l .inv .2 i h, none-counted (l .rest) i (c .loop-test .left));
+    }
 
 pub tally-spec : {M : Type 1} → statement M
-tally-spec = tie.close (tie.spec has-requires returns returns-2)
+tally-spec =
+    tie.close
+    (tie.spec
+    Inv-loop
+    μ-loop
+    loop-holds
+    lowest-requires
+    cast-counts
+    mul-counts
+    element-copy-out-counts
+    add-counts
+    element-write-counts
+    without-requires
+    loop-less
+    loop-again
+    returns)

@@ -1,63 +1,73 @@
--- `checks::tick::outranking` meets its contract: the mask holds what stands in the masks of the active activities passed.
--- Assumes nothing.
-use Prim.Native.Nat.{_≤_, _<_, _-_, _^_}
+-- `checks::tick::outranking` meets its contract: what is joined and what is left of the word come to the same. Assumes nothing.
 use native.Mathlib.Omega.{arith}
-use mathlib.Core.Path.{_≡_, refl, sym, ap, _∙_}
+use Prim.Native.Nat.{ℕ, _^_, _<_}
+use mathlib.Core.Bool.{_&&_, _||_}
+use mathlib.Core.Path.{_≡_, refl, ap, ap₂, _∙_}
 use lib.ListN.{getD}
+use Rattle.schedule.specs.Bounded.{bit}
+use Rattle.checks.specs.Tables.{some, outranking, outrankingOf}
+use Rattle.bits.proofs.Apart.{lowest-lt, rest-less}
+use Rattle.checks.proofs.WordLoops.{join-next, joined-whole}
 use borrow.Author.Needs.{needs}
-use Rattle.checks.specs.Tables.{outranking, outrankingOf}
-use Rattle.checks.proofs.WaitLaws.{join-next, join-start}
 use Rattle.checks.proofs.tick.outranking.Statement.{statement}
 use Rattle.checks.proofs.tick.outranking.Tie as tie
 
 abbrev Inv-loop : tie.InvT-loop
-Inv-loop word n masks all₀ a₀ all a = (a ≤ n) × (all ≡ outrankingOf a masks word)
+Inv-loop word masks all₀ rest₀ all rest =
+    (rest < 2 ^ 32) × (all < 2 ^ 32)
+    × ((b : ℕ) → (bit all b || some 32 (λ a. bit rest a && bit (getD masks a 0) b)) ≡ (bit 0 b || some 32 (λ a. bit word a && bit (getD masks a 0) b)))
 
 abbrev μ-loop : tie.MeasureT-loop
-μ-loop word n masks all₀ a₀ all a = n - a
+μ-loop word masks all₀ rest₀ all rest = rest
 
 loop-holds : tie.Need-loop-holds Inv-loop μ-loop
-unfolding outrankingOf
-loop-holds c = (omega arith, sym (join-start _ (c .args .word)))
+loop-holds c = (omega arith, omega arith, λ b. refl)
+
+lowest-requires : tie.Need-lowest-requires Inv-loop μ-loop
+lowest-requires c κs = search needs
+
+cast-joined : tie.Need-cast-joined Inv-loop μ-loop
+cast-joined c = search needs
 
 mul-joined : tie.Need-mul-joined Inv-loop μ-loop
-mul-joined c = omega arith
+mul-joined c =
+    let l = c .before .before .loop in
+    omega (arith, lowest-lt (l .rest) _ (l .inv .0) (c .before .loop-test .taken) (c .lowest .ensures))
 
 element-copy-out-joined : tie.Need-element-copy-out-joined Inv-loop μ-loop
-element-copy-out-joined c = omega arith
-
-cast-has : tie.Need-cast-has Inv-loop μ-loop
-cast-has c = omega arith
-
-has-requires : tie.Need-has-requires Inv-loop μ-loop
-has-requires c κs = search needs
+element-copy-out-joined c =
+    let l = c .before .before .loop in
+    omega (arith, lowest-lt (l .rest) _ (l .inv .0) (c .before .loop-test .taken) (c .lowest .ensures))
 
 joined-requires : tie.Need-joined-requires Inv-loop μ-loop
 joined-requires c κs = search needs
 
-add-a : tie.Need-add-a Inv-loop μ-loop
-add-a c = omega arith
+without-requires : tie.Need-without-requires Inv-loop μ-loop
+without-requires c κs = search needs
 
 loop-less : tie.Need-loop-less Inv-loop μ-loop
-loop-less c = omega arith
+loop-less c =
+    let l = c .before .before .before .before .before .loop in
+    omega (arith, c .without .ensures, rest-less (l .rest) _ (l .inv .0) (c .before .before .before .before .loop-test .taken) (c .before .before .before .lowest .ensures))
 
 loop-again : tie.Need-loop-again Inv-loop μ-loop
-unfolding outrankingOf
 loop-again c =
-    let x = c .before .before .before .before .before .args in
-    let l = c .before .before .before .before .loop in
-    let ok : c .joined .result < 2 ^ 32 = c .joined .ok in (
-      omega arith,
-      rw (c .joined .ensures, l .inv .1)
-          (join-next (l .a) _ (x .word) (λ a. getD (x .masks .now) a 0) (c .before .has .result)
-          (rw (c .joined .ensures, l .inv .1) at ok) refl (c .before .has .ensures)),
+    let l = c .before .before .before .before .before .loop in
+    let x = c .before .before .before .before .before .before .args in (
+      c .without .ok,
+      c .before .joined .ok,
+      λ b.
+          rw (c .without .ensures, c .before .joined .ensures)
+          (join-next (l .rest) _ (l .inv .0) (c .before .before .before .before .loop-test .taken) (c .before .before .before .lowest .ensures) (l .all) _ (λ a. getD (x .masks .now) a 0) refl b
+          ∙ l .inv .2 b),
     )
 
 returns : tie.Need-returns Inv-loop μ-loop
+unfolding outrankingOf
 returns c =
+    let l = c .before .loop in
     let x = c .before .before .args in
-    let whole : c .before .loop .a ≡ x .n = omega arith in
-    c .before .loop .inv .1 ∙ ap (λ k. outrankingOf k (x .masks .now) (x .word)) whole
+    joined-whole (l .all) (l .rest) (x .word) (λ a. getD (x .masks .now) a 0) (l .inv .1) (c .loop-test .left) (l .inv .2)
 
 pub outranking-spec : {M : Type 1} → statement M
 outranking-spec =
@@ -66,12 +76,12 @@ outranking-spec =
     Inv-loop
     μ-loop
     loop-holds
+    lowest-requires
+    cast-joined
     mul-joined
     element-copy-out-joined
-    cast-has
-    has-requires
     joined-requires
-    add-a
+    without-requires
     loop-less
     loop-again
     returns)

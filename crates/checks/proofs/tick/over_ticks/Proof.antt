@@ -11,19 +11,22 @@ use Rattle.records.specs.declared.model.Sizes.{Sizes}
 use Rattle.records.specs.Rows.{sizesOf}
 use Rattle.laws.proofs.RowLaws.{ClearTo, clear-start, clear-again, clear-end, clear-stop}
 use Rattle.checks.specs.Tables.{tickRule, Tabled}
+use Rattle.checks.specs.Windows.{Stands}
 use Rattle.checks.proofs.TickLaws.{tick-read, tick-rows, tick-columns, tick-number}
+use Rattle.checks.proofs.WindowLaws.{unknown-stands, stands-on}
 use Rattle.checks.proofs.MaskRow.{row-stops, row-goes-on}
 use borrow.Author.Needs.{needs}
 use Rattle.checks.proofs.tick.over_ticks.Statement.{statement}
 use Rattle.checks.proofs.tick.over_ticks.Tie as tie
 
 abbrev Inv-loop : tie.InvT-loop
-Inv-loop rule s r froms ends masks cores n horizon t₀ t =
+Inv-loop rule s r froms ends masks cores n horizon waitable₀ t₀ waitable t =
     (t ≤ horizon) × (horizon ≡ model s .horizon) × (n ≡ model s .activities) × (cores ≡ model s .cores)
     × Tabled rule (model s) (plan r) froms ends masks × ClearTo (tickRule rule (model s) (plan r)) t
+    × Stands n froms ends waitable t
 
 abbrev μ-loop : tie.MeasureT-loop
-μ-loop rule s r froms ends masks cores n horizon t₀ t = horizon - t
+μ-loop rule s r froms ends masks cores n horizon waitable₀ t₀ waitable t = horizon - t
 
 counts-requires : tie.Need-counts-requires Inv-loop μ-loop
 counts-requires c κs = search needs
@@ -34,26 +37,33 @@ cast-cores c = search needs
 cast-n : tie.Need-cast-n Inv-loop μ-loop
 cast-n c = search needs
 
+unknown-requires : tie.Need-unknown-requires Inv-loop μ-loop
+unknown-requires c κs = search needs
+
 loop-holds : tie.Need-loop-holds Inv-loop μ-loop
 unfolding sizesOf
 loop-holds c =
-    let e = c .before .before .counts .ensures in (
+    let e = c .before .before .before .counts .ensures in (
       omega arith,
       ap (λ (y : Sizes). y .horizon) e,
       ap (λ (y : Sizes). y .activities) e,
       ap (λ (y : Sizes). y .cores) e,
-      c .before .before .before .before .before .pre,
+      c .before .before .before .before .before .before .pre,
       clear-start _,
+      unknown-stands _ _ _ _ _ (c .unknown .ensures),
     )
+
+cast-at : tie.Need-cast-at Inv-loop μ-loop
+cast-at c = search needs
+
+at-requires : tie.Need-at-requires Inv-loop μ-loop
+at-requires c κs = let l = c .before .loop in (omega (arith, l .inv .2, l .inv .4 .few), l .inv .6)
 
 word-requires : tie.Need-word-requires Inv-loop μ-loop
 word-requires c κs = search needs
 
-cast-breaking : tie.Need-cast-breaking Inv-loop μ-loop
-cast-breaking c = search needs
-
 breaking-requires : tie.Need-breaking-requires Inv-loop μ-loop
-breaking-requires c κs = let l = c .before .before .loop in omega (arith, l .inv .2, l .inv .4 .few)
+breaking-requires c κs = search needs
 
 lowest-requires : tie.Need-lowest-requires Inv-loop μ-loop
 lowest-requires c κs = search needs
@@ -69,19 +79,19 @@ refused-requires c κs = search needs
 
 returns : tie.Need-returns Inv-loop μ-loop
 returns c =
-    let l = c .before .before .before .before .before .before .before .loop in
-    let x = c .before .before .before .before .before .before .before .before .before .before .before .before .before .args in
+    let l = c .before .before .before .before .before .before .before .before .loop in
+    let x = c .before .before .before .before .before .before .before .before .before .before .before .before .before .before .before .args in
     let m = model (x .s .now) in
     let p = plan (x .r .now) in
     let mask =
-    tick-read (x .rule) m p (x .froms .now) (x .ends .now) (x .masks .now) (l .inv .4) (l .t) _ _ _ _
-    (c .before .before .before .before .breaking .ensures) (c .before .before .before .before .before .word .ensures) (l .inv .3) (l .inv .2) in
+    tick-read (x .rule) m p (x .froms .now) (x .ends .now) (x .masks .now) (l .inv .4) (l .t) _ _ _ _ _
+    (c .before .before .before .before .breaking .ensures) (c .before .before .before .before .before .word .ensures) (l .inv .3) (c .before .before .before .before .before .before .at .ensures .0) (l .inv .2) in
     let few = tick-columns (x .rule) m p (l .inv .4 .few) in
     c .refused .ensures
     ∙ ap (λ (k : ℕ). some (record { number = k; A = l .t; B = c .before .before .before .lowest .result }))
     (ap ruleNumber (c .before .name .ensures) ∙ tick-number (x .rule) m p)
     ∙ sym (clear-stop (tickRule (x .rule) m p) (l .t) _ (l .inv .5)
-    (omega (arith, tick-rows (x .rule) m p, l .inv .1, c .before .before .before .before .before .before .loop-test .taken))
+    (omega (arith, tick-rows (x .rule) m p, l .inv .1, c .before .before .before .before .before .before .before .loop-test .taken))
     (row-stops (tickRule (x .rule) m p) (l .t) _ _ few mask (c .before .before .before .lowest .ensures) (c .before .before .if1 .taken)))
 
 add-t : tie.Need-add-t Inv-loop μ-loop
@@ -92,13 +102,13 @@ loop-less c = omega arith
 
 loop-again : tie.Need-loop-again Inv-loop μ-loop
 loop-again c =
-    let l = c .before .before .before .before .before .loop in
-    let x = c .before .before .before .before .before .before .before .before .before .before .before .args in
+    let l = c .before .before .before .before .before .before .loop in
+    let x = c .before .before .before .before .before .before .before .before .before .before .before .before .before .args in
     let m = model (x .s .now) in
     let p = plan (x .r .now) in
     let mask =
-    tick-read (x .rule) m p (x .froms .now) (x .ends .now) (x .masks .now) (l .inv .4) (l .t) _ _ _ _
-    (c .before .before .breaking .ensures) (c .before .before .before .word .ensures) (l .inv .3) (l .inv .2) in
+    tick-read (x .rule) m p (x .froms .now) (x .ends .now) (x .masks .now) (l .inv .4) (l .t) _ _ _ _ _
+    (c .before .before .breaking .ensures) (c .before .before .before .word .ensures) (l .inv .3) (c .before .before .before .before .at .ensures .0) (l .inv .2) in
     let few = tick-columns (x .rule) m p (l .inv .4 .few) in (
       omega arith,
       l .inv .1,
@@ -107,16 +117,16 @@ loop-again c =
       l .inv .4,
       clear-again (tickRule (x .rule) m p) (l .t) (l .inv .5)
           (row-goes-on (tickRule (x .rule) m p) (l .t) _ _ few mask (c .before .lowest .ensures) (c .if1 .left)),
+      stands-on _ _ _ _ _ (c .before .before .before .before .at .ensures .1),
     )
 
 returns-2 : tie.Need-returns-2 Inv-loop μ-loop
 returns-2 c =
     let l = c .before .loop in
-    let x = c .before .before .before .before .before .before .before .args in
-    let whole : l .t ≡ tickRule (x .rule) (model (x .s .now)) (plan (x .r .now)) .rows =
-    omega (arith, tick-rows (x .rule) (model (x .s .now)) (plan (x .r .now)), l .inv .1) in
-    sym (clear-end (tickRule (x .rule) (model (x .s .now)) (plan (x .r .now)))
-    (subst (ClearTo (tickRule (x .rule) (model (x .s .now)) (plan (x .r .now)))) whole (l .inv .5)))
+    let x = c .before .before .before .before .before .before .before .before .args in
+    let r = tickRule (x .rule) (model (x .s .now)) (plan (x .r .now)) in
+    let whole : l .t ≡ r .rows = omega (arith, tick-rows (x .rule) (model (x .s .now)) (plan (x .r .now)), l .inv .1) in
+    sym (clear-end r (subst (ClearTo r) whole (l .inv .5)))
 
 pub over-ticks-spec : {M : Type 1} → statement M
 over-ticks-spec =
@@ -127,9 +137,11 @@ over-ticks-spec =
     counts-requires
     cast-cores
     cast-n
+    unknown-requires
     loop-holds
+    cast-at
+    at-requires
     word-requires
-    cast-breaking
     breaking-requires
     lowest-requires
     name-requires

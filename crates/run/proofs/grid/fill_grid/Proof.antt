@@ -9,16 +9,20 @@ use Rattle.schedule.specs.Choice.{choice}
 use Rattle.schedule.specs.Model.{model}
 use Rattle.records.specs.Rows.{sizesOf}
 use Rattle.records.specs.declared.model.Sizes.{Sizes}
+use Rattle.run.specs.Stretches.{Lasts}
+use Rattle.run.proofs.MaskLaws.{stepped-fewer}
+use Rattle.run.proofs.StretchLaws.{lasts-unknown, lasts-next}
 use Rattle.run.proofs.GridLaws.{Running, running-start, running-next, running-end, running-length}
 use Rattle.run.proofs.grid.fill_grid.Statement.{statement}
 use Rattle.run.proofs.grid.fill_grid.Tie as tie
 
 abbrev Inv-loop : tie.InvT-loop
-Inv-loop s q grid₀ n cores horizon releases delays temporal by-data befores owed₀ ends₀ t₀ grid owed ends t =
+Inv-loop s q grid₀ n cores horizon releases delays temporal by-data befores owed₀ ends₀ stretch₀ t₀ grid owed ends stretch t =
     Running (model s) (choice q) n cores horizon releases delays temporal by-data befores grid₀ grid owed ends t
+    × Lasts n cores releases delays temporal by-data befores owed ends stretch t
 
 abbrev μ-loop : tie.MeasureT-loop
-μ-loop s q grid₀ n cores horizon releases delays temporal by-data befores owed₀ ends₀ t₀ grid owed ends t =
+μ-loop s q grid₀ n cores horizon releases delays temporal by-data befores owed₀ ends₀ stretch₀ t₀ grid owed ends stretch t =
     horizon - t
 
 counts-requires : tie.Need-counts-requires Inv-loop μ-loop
@@ -80,52 +84,60 @@ table-requires-6 c κs =
     let c14 = c10 .before .before .before .before in
     rw (ap (λ (r : Sizes). r .activities) (c10 .counts .ensures)) (c14 .pre .0 .few)
 
+unknown-requires : tie.Need-unknown-requires Inv-loop μ-loop
+unknown-requires c κs = search needs
+
 loop-holds : tie.Need-loop-holds Inv-loop μ-loop
 unfolding sizesOf
 loop-holds c =
-    let c5 = c .before .before .before .before .before in
-    let c6 = c5 .before in
+    let c6 = c .before .before .before .before .before .before in
     let c7 = c6 .before in
     let c8 = c7 .before in
-    let c11 = c8 .before .before .before in
-    let c15 = c11 .before .before .before .before in
-    running-start _ _ _ _ _ _ _ _ _ _ _ _ _ _ (ap (λ (r : Sizes). r .activities) (c11 .counts .ensures))
-    (ap (λ (r : Sizes). r .cores) (c11 .counts .ensures))
-    (ap (λ (r : Sizes). r .horizon) (c11 .counts .ensures))
-    (rw (ap (λ (r : Sizes). r .activities) (c11 .counts .ensures)) (c15 .pre .0 .few))
-    (omega (arith, c8 .struct-known3 .given))
-    (rw (ap (λ (r : Sizes). r .horizon) (c11 .counts .ensures)) (c15 .pre .1))
-    (c7 .table .ensures) (c6 .table2 .ensures) (c5 .table3 .ensures) (c .before .before .before .before .table4 .ensures) (c .before .before .before .table5 .ensures)
-    (c .before .before-masks .ensures) (c .table6 .ensures)
-    (record { sized = refl; filled = λ a l. getD-replicate 32 a 0 0 (omega (arith, ap (λ (r : Sizes). r .activities) (c11 .counts .ensures), c15 .pre .0 .few)) })
+    let c9 = c8 .before in
+    let c12 = c9 .before .before .before in
+    let c16 = c12 .before .before .before .before in (
+      running-start _ _ _ _ _ _ _ _ _ _ _ _ _ _ (ap (λ (r : Sizes). r .activities) (c12 .counts .ensures))
+          (ap (λ (r : Sizes). r .cores) (c12 .counts .ensures))
+          (ap (λ (r : Sizes). r .horizon) (c12 .counts .ensures))
+          (rw (ap (λ (r : Sizes). r .activities) (c12 .counts .ensures)) (c16 .pre .0 .few))
+          (omega (arith, c9 .struct-known3 .given))
+          (rw (ap (λ (r : Sizes). r .horizon) (c12 .counts .ensures)) (c16 .pre .1))
+          (c8 .table .ensures) (c7 .table2 .ensures) (c6 .table3 .ensures) (c .before .before .before .before .before .table4 .ensures) (c .before .before .before .before .table5 .ensures)
+          (c .before .before .before-masks .ensures) (c .before .table6 .ensures)
+          (record { sized = refl; filled = λ a l. getD-replicate 32 a 0 0 (omega (arith, ap (λ (r : Sizes). r .activities) (c12 .counts .ensures), c16 .pre .0 .few)) }),
+      lasts-unknown _ _ _ _ _ _ _ _ _ _ _ (c .unknown .ensures),
+    )
 
-cast-tick : tie.Need-cast-tick Inv-loop μ-loop
-cast-tick c =
+cast-at : tie.Need-cast-at Inv-loop μ-loop
+cast-at c =
     let c7 = c .before .before .before .before .before .before .before in
     let c8 = c7 .before in
-    omega (arith, c8 .loop .inv .narrow, c7 .loop-test .taken)
+    omega (arith, c8 .loop .inv .0 .narrow, c7 .loop-test .taken)
 
-tick-requires : tie.Need-tick-requires Inv-loop μ-loop
-tick-requires c κs = search needs
+at-requires : tie.Need-at-requires Inv-loop μ-loop
+at-requires c κs =
+    let c7 = c .before .before .before .before .before .before .before in
+    let l = c7 .before .loop in
+    (omega (arith, l .inv .0 .n-is, l .inv .0 .tabled .few), omega (arith, l .inv .0 .narrow, c7 .loop-test .taken), l .inv .1)
 
 cast-step : tie.Need-cast-step Inv-loop μ-loop
 cast-step c =
     let c8 = c .before .before .before .before .before .before .before .before in
     let c9 = c8 .before in
-    omega (arith, c9 .loop .inv .narrow, c8 .loop-test .taken)
+    omega (arith, c9 .loop .inv .0 .narrow, c8 .loop-test .taken)
 
 step-requires : tie.Need-step-requires Inv-loop μ-loop
 step-requires c κs =
     let c10 = c .before .before .before .before .before .before .before .before .before .before in
     let c11 = c10 .before in
     let l = c11 .loop in
-    (omega arith, omega (arith, l .inv .narrow, c10 .loop-test .taken), l .inv .sized .0, l .inv .sized .1)
+    (omega (arith, l .inv .0 .narrow, c10 .loop-test .taken), l .inv .0 .sized .0, l .inv .0 .sized .1)
 
 mul-put32 : tie.Need-mul-put32 Inv-loop μ-loop
 mul-put32 c =
     let c12 = c .before .before .before .before .before .before .before .before .before .before .before .before in
     let c13 = c12 .before in
-    omega (arith, c13 .loop .inv .narrow, c12 .loop-test .taken)
+    omega (arith, c13 .loop .inv .0 .narrow, c12 .loop-test .taken)
 
 put32-requires : tie.Need-put32-requires Inv-loop μ-loop
 put32-requires c κs = search needs
@@ -134,7 +146,7 @@ add-t : tie.Need-add-t Inv-loop μ-loop
 add-t c =
     let c15 = c .before .before .before .before .before .before .before .before .before .before .before .before .before .before .before in
     let c16 = c15 .before in
-    omega (arith, c16 .loop .inv .narrow, c15 .loop-test .taken)
+    omega (arith, c16 .loop .inv .0 .narrow, c15 .loop-test .taken)
 
 loop-less : tie.Need-loop-less Inv-loop μ-loop
 loop-less c =
@@ -148,14 +160,18 @@ loop-again c =
     let c16 = c15 .before in
     let c32 = c16 .before .before .before .before .before .before .before .before .before .before .before .before .before .before .before .before in
     let l = c16 .loop in
-    running-next _ _ _ _ _ _ _ _ _ _ _ (l .grid) (l .owed) (l .ends) (l .t) (l .inv) (c7 .tick .result) _ _ _ (c32 .pre .0 .masked) (c15 .loop-test .taken)
-    (c7 .tick .ensures) (c .before .before .before .before .step .ensures) (c .before .before .put32 .ensures)
+    let few = l .inv .0 .tabled .few in
+    let step = c .before .before .before .before .step .ensures in (
+      running-next _ _ _ _ _ _ _ _ _ _ _ (l .grid) (l .owed) (l .ends) (l .t) (l .inv .0) (c7 .at .result .word) _ _ _ (c32 .before .pre .0 .masked) (c15 .loop-test .taken)
+          (c7 .at .ensures .0) (stepped-fewer _ _ _ _ _ _ _ (omega (arith, l .inv .0 .n-is, few)) step) (c .before .before .put32 .ensures),
+      lasts-next _ _ _ _ _ _ _ (l .owed) (l .ends) _ _ (c7 .at .result) (l .t) (omega (arith, l .inv .0 .n-is, few)) (c7 .at .ensures .1) step,
+    )
 
 same-length : tie.Need-same-length Inv-loop μ-loop
-same-length c = running-length _ _ _ _ _ _ _ _ _ _ _ _ _ _ _ (c .before .loop .inv)
+same-length c = running-length _ _ _ _ _ _ _ _ _ _ _ _ _ _ _ (c .before .loop .inv .0)
 
 returns : tie.Need-returns Inv-loop μ-loop
-returns c = running-end _ _ _ _ _ _ _ _ _ _ _ _ _ _ _ (c .before .loop .inv) (c .loop-test .left)
+returns c = running-end _ _ _ _ _ _ _ _ _ _ _ _ _ _ _ (c .before .loop .inv .0) (c .loop-test .left)
 
 pub fill-grid-spec : {M : Type 1} → statement M
 fill-grid-spec =
@@ -174,9 +190,10 @@ fill-grid-spec =
     table-requires-5
     before-masks-requires
     table-requires-6
+    unknown-requires
     loop-holds
-    cast-tick
-    tick-requires
+    cast-at
+    at-requires
     cast-step
     step-requires
     mul-put32

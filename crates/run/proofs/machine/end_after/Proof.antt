@@ -1,7 +1,6 @@
--- `run::machine::end_after` meets its contract: the end where its last tick is run.
--- Assumes nothing.
-use borrow.Author.Needs.{needs}
+-- `run::machine::end_after` meets its contract: the end where its last tick is run. Assumes nothing.
 use borrow.Author.Tests.{eq-eqb, ne-eqb}
+use borrow.Author.Needs.{needs}
 use Rattle.run.proofs.machine.end_after.Statement.{statement}
 use Rattle.run.proofs.machine.end_after.Tie as tie
 
@@ -9,13 +8,10 @@ add-result : tie.Need-add-result
 add-result c = search needs
 
 returns : tie.Need-returns
-returns c = simp (c .before .if1 .taken, eq-eqb _ _ (c .if2 .taken))
+returns c = simp (eq-eqb _ _ (c .if1 .taken))
 
 returns-2 : tie.Need-returns-2
-returns-2 c = simp (c .before .if1 .taken, ne-eqb _ _ (c .if2 .left))
-
-returns-3 : tie.Need-returns-3
-returns-3 c = search needs
+returns-2 c = simp (ne-eqb _ _ (c .if1 .left))
 
 pub end-after-spec : {M : Type 1} → statement M
-end-after-spec = tie.close (tie.spec add-result returns returns-2 returns-3)
+end-after-spec = tie.close (tie.spec add-result returns returns-2)

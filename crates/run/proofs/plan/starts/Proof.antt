@@ -1,48 +1,59 @@
--- `run::plan::starts` meets its contract: the starts passed are filled in.
--- Assumes nothing.
-use Prim.Native.Nat.{_≤_, _-_}
+-- `run::plan::starts` meets its contract: what was seen has its first tick, the rest none so far. Assumes nothing.
 use native.Mathlib.Omega.{arith}
-use mathlib.Core.Path.{_≡_, refl}
-use Rattle.run.specs.Front.{startIn}
-use Rattle.run.specs.Tables.{Filled}
-use Rattle.run.proofs.MaskLaws.{filled-none, filled-next}
+use Prim.Native.Nat.{_≤_, _<_, _-_}
+use mathlib.Core.Path.{refl}
+use Rattle.run.specs.Front.{wordIn}
+use Rattle.run.proofs.StartLaws.{Seen, seen-start, seen-next, seen-end}
+use borrow.Author.Needs.{needs}
 use Rattle.run.proofs.plan.starts.Statement.{statement}
 use Rattle.run.proofs.plan.starts.Tie as tie
 
 abbrev Inv-loop : tie.InvT-loop
-Inv-loop out at h n table₀ a₀ table a = (a ≤ n) × Filled a (startIn out at h) table
+Inv-loop out at h table₀ seen₀ t₀ table seen t = (t ≤ h) × (at < 65536) × (h < 65536) × Seen (wordIn out at) h t seen table
 
 abbrev μ-loop : tie.MeasureT-loop
-μ-loop out at h n table₀ a₀ table a = n - a
+μ-loop out at h table₀ seen₀ t₀ table seen t = h - t
+
+cast-table : tie.Need-cast-table Inv-loop μ-loop
+cast-table c = omega arith
 
 loop-holds : tie.Need-loop-holds Inv-loop μ-loop
-loop-holds c = (omega arith, filled-none _ _ refl)
+loop-holds c = (omega arith, c .before .pre .0, c .before .pre .1, seen-start _ _)
 
-cast-first-active : tie.Need-cast-first-active Inv-loop μ-loop
-cast-first-active c = omega arith
+mul-be32 : tie.Need-mul-be32 Inv-loop μ-loop
+mul-be32 c = omega arith
 
-first-active-requires : tie.Need-first-active-requires Inv-loop μ-loop
-first-active-requires c κs = omega arith
+add-be32 : tie.Need-add-be32 Inv-loop μ-loop
+add-be32 c = omega arith
 
-mul-table : tie.Need-mul-table Inv-loop μ-loop
-mul-table c = omega arith
+be32-requires : tie.Need-be32-requires Inv-loop μ-loop
+be32-requires c κs = search needs
 
-array-write-table : tie.Need-array-write-table Inv-loop μ-loop
-array-write-table c = omega arith
+cast-enter : tie.Need-cast-enter Inv-loop μ-loop
+cast-enter c = omega arith
 
-add-a : tie.Need-add-a Inv-loop μ-loop
-add-a c = omega arith
+enter-requires : tie.Need-enter-requires Inv-loop μ-loop
+enter-requires c κs = c .before .before .before .loop .inv .3 .sized
+
+add-t : tie.Need-add-t Inv-loop μ-loop
+add-t c = omega arith
 
 loop-less : tie.Need-loop-less Inv-loop μ-loop
 loop-less c = omega arith
 
 loop-again : tie.Need-loop-again Inv-loop μ-loop
-loop-again c = (omega arith, filled-next _ (c .before .before .loop .a) _ _ (omega arith) (c .before .before .loop .inv .1) (c .first-active .ensures))
+loop-again c =
+    let l = c .before .before .before .before .loop in (
+      omega arith,
+      l .inv .1,
+      l .inv .2,
+      seen-next _ _ (l .t) (l .seen) _ _ _ (l .inv .3) (c .before .before .before .loop-test .taken) (c .before .before .be32 .ok) (c .before .before .be32 .ensures) (c .enter .ensures),
+    )
 
 returns : tie.Need-returns Inv-loop μ-loop
 returns c =
-    let whole : c .before .loop .a ≡ c .before .before .before .args .n = omega arith in
-    rw whole at (c .before .loop .inv .1)
+    let l = c .before .loop in
+    seen-end _ _ _ (l .t) (l .seen) (l .table) (omega arith) (l .inv .3)
 
 pub starts-spec : {M : Type 1} → statement M
 starts-spec =
@@ -50,12 +61,14 @@ starts-spec =
     (tie.spec
     Inv-loop
     μ-loop
+    cast-table
     loop-holds
-    cast-first-active
-    first-active-requires
-    mul-table
-    array-write-table
-    add-a
+    mul-be32
+    add-be32
+    be32-requires
+    cast-enter
+    enter-requires
+    add-t
     loop-less
     loop-again
     returns)

@@ -29,7 +29,6 @@ starts-requires c κs =
     let runs = c8 .pre .runs in (
       omega (arith, c .before .grid-at .ensures, runs .threads .1, runs .few),
       omega (arith, c .struct-known2 .given),
-      omega (arith, ap (λ (r : Sizes). r .activities) (c .before .before .before .before .counts .ensures), runs .few),
     )
 
 write-head-requires : tie.Need-write-head-requires
@@ -67,7 +66,7 @@ write-activities-requires c κs =
       omega (arith, em, c20 .pre .runs .few),
       omega (arith, en, em, c20 .pre .room, c9 .write-head .kept .0, c5 .write-threads .kept .1 .1 .0),
       λ a l. (
-        omega (arith, c11 .starts .ensures .filled a l, start-le (c20 .args .out .now) (c13 .grid-at .result) (r .horizon) a, c12 .struct-known2 .given),
+        omega (arith, c11 .starts .ensures .filled a (omega (arith, l, em, c20 .pre .runs .few)), start-le (c20 .args .out .now) (c13 .grid-at .result) (r .horizon) a, c12 .struct-known2 .given),
         c20 .pre .small a (omega (arith, em)),
       ),
     )
@@ -86,7 +85,7 @@ returns c =
     let c23 = c19 .before .before .before .before in
     let x = c23 .args in
     let whole = front-says _ _ _ _ _ _ _ _ (x .out .now) _ _ _ (omega (arith, ap (λ (r : Sizes). r .threads) (c19 .counts .ensures), ap (λ (r : Sizes). r .activities) (c19 .counts .ensures), c23 .pre .room))
-    (c14 .starts .ensures .filled) (c12 .write-head .ensures) (c8 .write-threads .ensures) (c .before .before .write-activities .ensures) in
+    (λ a l. c14 .starts .ensures .filled a (omega (arith, l, ap (λ (r : Sizes). r .activities) (c19 .counts .ensures), c23 .pre .runs .few))) (c12 .write-head .ensures) (c8 .write-threads .ensures) (c .before .before .write-activities .ensures) in
     rw (c19 .counts .ensures, c16 .grid-at .ensures) at whole
 
 pub write-front-spec : {M : Type 1} → statement M

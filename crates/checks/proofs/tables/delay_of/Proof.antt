@@ -1,0 +1,19 @@
+-- `checks::tables::delay_of` meets its contract: the row is that of the definition. Assumes nothing.
+use mathlib.Core.Path.{ap}
+use Rattle.records.specs.Rows.{activityRowOf}
+use borrow.Author.Needs.{needs}
+use Rattle.checks.proofs.tables.delay_of.Statement.{statement}
+use Rattle.checks.proofs.tables.delay_of.Tie as tie
+
+activity-row-requires : tie.Need-activity-row-requires
+activity-row-requires c κs = search needs
+
+cast-result : tie.Need-cast-result
+cast-result c = search needs
+
+returns : tie.Need-returns
+unfolding activityRowOf
+returns c = ap (λ row. row .delay) (c .before .activity-row .ensures)
+
+pub delay-of-spec : {M : Type 1} → statement M
+delay-of-spec = tie.close (tie.spec activity-row-requires cast-result returns)

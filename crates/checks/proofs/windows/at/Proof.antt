@@ -1,0 +1,24 @@
+-- `checks::windows::at` meets its contract: what is known stands, or is made anew. Assumes nothing.
+use native.Mathlib.Omega.{arith}
+use mathlib.Core.Path.{_≡_, sym, _∙_}
+use Rattle.checks.proofs.WindowLaws.{quiet-same}
+use borrow.Author.Needs.{needs}
+use Rattle.checks.proofs.windows.at.Statement.{statement}
+use Rattle.checks.proofs.windows.at.Tie as tie
+
+returns : tie.Need-returns
+returns c =
+    let known = c .before .before .pre .1 in
+    (sym (known (c .before .before .args .t) (omega arith) (c .if1 .taken)), known)
+
+opened-requires : tie.Need-opened-requires
+opened-requires c κs = search needs
+
+next-change-requires : tie.Need-next-change-requires
+next-change-requires c κs = search needs
+
+returns-2 : tie.Need-returns-2
+returns-2 c = (c .before .opened .ensures, λ v h l. quiet-same _ _ _ _ _ v (c .next-change .ensures) h l ∙ sym (c .before .opened .ensures))
+
+pub at-spec : {M : Type 1} → statement M
+at-spec = tie.close (tie.spec returns opened-requires next-change-requires returns-2)

@@ -1,0 +1,87 @@
+-- `checks::windows::outside` meets its contract: `strays` holds what is active outside its window at the ticks passed. Assumes nothing.
+use native.Mathlib.Omega.{arith}
+use Prim.Native.Nat.{ℕ, _≤_, _<_, _-_}
+use mathlib.Core.Bool.{_&&_, not}
+use mathlib.Core.Path.{_≡_, ap, _∙_}
+use lib.Bits.{bitOr}
+use lib.Dec.{leb, ltb}
+use lib.ListN.{getD}
+use Rattle.schedule.specs.Bounded.{all, bit, _⇒_}
+use Rattle.schedule.specs.Plan.{plan, active}
+use Rattle.checks.specs.Windows.{Stands, without}
+use Rattle.checks.proofs.WindowLaws.{unknown-stands, stands-on, stray-start, stray-next}
+use borrow.Author.Needs.{needs}
+use Rattle.checks.proofs.windows.outside.Statement.{statement}
+use Rattle.checks.proofs.windows.outside.Tie as tie
+
+abbrev Inv-loop : tie.InvT-loop
+Inv-loop r horizon n starts ends strays₀ windows₀ t₀ strays windows t =
+    (t ≤ horizon) × Stands n starts ends windows t
+    × ((a : ℕ) → a < n → bit strays a
+    ≡ not (all t (λ v. active (plan r) v a ⇒ (leb (getD starts a 0) v && ltb v (getD ends a 0)))))
+
+abbrev μ-loop : tie.MeasureT-loop
+μ-loop r horizon n starts ends strays₀ windows₀ t₀ strays windows t = horizon - t
+
+unknown-requires : tie.Need-unknown-requires Inv-loop μ-loop
+unknown-requires c κs = search needs
+
+loop-holds : tie.Need-loop-holds Inv-loop μ-loop
+loop-holds c = (omega arith, unknown-stands _ _ _ _ _ (c .unknown .ensures), λ a l. stray-start a _)
+
+cast-at : tie.Need-cast-at Inv-loop μ-loop
+cast-at c = search needs
+
+at-requires : tie.Need-at-requires Inv-loop μ-loop
+at-requires c κs =
+    let l = c .before .loop in
+    (c .before .before .before .before .pre, l .inv .1)
+
+word-requires : tie.Need-word-requires Inv-loop μ-loop
+word-requires c κs = search needs
+
+without-requires : tie.Need-without-requires Inv-loop μ-loop
+without-requires c κs = search needs
+
+add-t : tie.Need-add-t Inv-loop μ-loop
+add-t c = search needs
+
+loop-less : tie.Need-loop-less Inv-loop μ-loop
+loop-less c = search needs
+
+loop-again : tie.Need-loop-again Inv-loop μ-loop
+loop-again c =
+    let l = c .before .before .before .before .loop in
+    let x = c .before .before .before .before .before .before .before .args in (
+      omega arith,
+      stands-on _ _ _ _ _ (c .before .before .at .ensures .1),
+      λ a h. ap (λ (w : ℕ). bit (bitOr (l .strays) w) a)
+          (c .without .ensures ∙ ap (λ (w : ℕ). without w (c .before .before .at .result .mask)) (c .before .word .ensures))
+          ∙ stray-next (x .n) (x .starts .now) (x .ends .now) (λ v. plan (x .r .now) .word v) (l .t) _ _
+          (c .before .before .before .before .before .before .before .pre) (c .before .before .at .ensures .0) a h (l .inv .2 a h),
+    )
+
+returns : tie.Need-returns Inv-loop μ-loop
+returns c =
+    let l = c .before .loop in
+    let x = c .before .before .before .before .args in
+    let whole : l .t ≡ x .horizon = omega arith in
+    λ a h. l .inv .2 a h
+    ∙ ap (λ k. not (all k (λ v. active (plan (x .r .now)) v a ⇒ (leb (getD (x .starts .now) a 0) v && ltb v (getD (x .ends .now) a 0))))) whole
+
+pub outside-spec : {M : Type 1} → statement M
+outside-spec =
+    tie.close
+    (tie.spec
+    Inv-loop
+    μ-loop
+    unknown-requires
+    loop-holds
+    cast-at
+    at-requires
+    word-requires
+    without-requires
+    add-t
+    loop-less
+    loop-again
+    returns)

@@ -1,0 +1,34 @@
+-- What a held view keeps of a plan's bytes, and what any bytes give at a tick.
+-- Assumes nothing.
+use Prim.Native.Nat.{ℕ, _+_, _*_, _/_, min}
+use mathlib.Core.Bool.{cond}
+use mathlib.Core.List.{List, []}
+use mathlib.Core.Option.{Option, some, none}
+use lib.Dec.{ltb}
+use lib.ListN.{length, drop}
+use Rattle.schedule.specs.Fields.{field}
+use Rattle.schedule.specs.Rule.{Refusal}
+use Rattle.schedule.specs.Plan.{plan}
+use Rattle.schedule.specs.Streams.{WordOrPast, word, past, viewRefusal}
+
+-- where the words of a plan begin, behind its n thread rows and m activity rows
+unfoldable pub wordsFrom : List ℕ → ℕ
+wordsFrom r = 9 + 4 * plan r .threads + 4 * plan r .activities
+
+-- the bytes held by what the making answered: the plan's words, and none where it is refused
+unfoldable pub heldBytes : Option Refusal → List ℕ → List ℕ
+heldBytes none r = drop (wordsFrom r) r
+heldBytes (some x) r = []
+
+-- where they begin in the plan, its end where none is held
+unfoldable pub heldFrom : Option Refusal → List ℕ → ℕ
+heldFrom none r = min (wordsFrom r) (length r)
+heldFrom (some x) r = length r
+
+-- the bytes held by a view made over a model and a plan
+unfoldable pub gridBytes : List ℕ → List ℕ → List ℕ
+gridBytes s r = heldBytes (viewRefusal s r) r
+
+-- "it gives the word at a tick, or past for a tick ≥ H", of any bytes that are held
+unfoldable pub gridWord : List ℕ → ℕ → WordOrPast
+gridWord g t = cond (ltb t (length g / 4)) (word (field g (4 * t) 4)) past
