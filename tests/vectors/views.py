@@ -1,14 +1,16 @@
-"""The stored cases of the held view: a model, a plan and a tick, with the word or past.
+"""The stored cases of the held view: a model, a plan and a tick, with what the making answers and the word or past.
 
-The words are those that the plan is made of; that a view gives past follows from the paper's rules 1 to 14 and from H.
+The words are those that the plan is made of; the refusals, and that a view gives past, follow from the paper's rules 1 to
+14 and from H.
 """
 from records import S, S_ACTIVITIES, S_PLAN, S_ROWS, activity, model, plan, replaced, s_model, s_plan, thread
 
-VIEWS = []  # (model, plan, tick, answer, shows)
+VIEWS = []  # (model, plan, tick, lines, shows)
 
 
-def view(shows, model_bytes, plan_bytes, tick, word=None):
-    VIEWS.append((model_bytes, plan_bytes, tick, "past" if word is None else f"word {word}", shows))
+def view(shows, model_bytes, plan_bytes, tick, word=None, refused=None):
+    making = "made" if refused is None else f"refused {refused}"
+    VIEWS.append((model_bytes, plan_bytes, tick, [making, "past" if word is None else f"word {word}"], shows))
 
 
 def ticks():
@@ -22,12 +24,12 @@ def ticks():
 
 def makings():
     view("a plan that breaks 25 has a view", S, s_plan([2, 1, 1, 2, 4, 0, 0, 0]), 4, 4)
-    view("release 3 for thread 0: refused by 12", S, s_plan(chosen=[(3, 0), (0, 8)]), 0)
-    view("bit 3 at tick 7: refused by 14", S, s_plan([2, 1, 1, 2, 0, 4, 0, 8], rows=S_ROWS), 0)
+    view("release 3 for thread 0: refused by 12", S, s_plan(chosen=[(3, 0), (0, 8)]), 0, refused="12 0 0")
+    view("bit 3 at tick 7: refused by 14", S, s_plan([2, 1, 1, 2, 0, 4, 0, 8], rows=S_ROWS), 0, refused="14 7 0")
     own = replaced(S_ACTIVITIES, 1, activity(1, (2, 3), delay=1, temporal=[1]))
-    view("temporal mask 2 in activity 1's row: refused by 7", s_model(activities=own), S_PLAN, 0)
-    view("no plan", S, b"", 0)
-    view("no model", b"", S_PLAN, 0)
+    view("temporal mask 2 in activity 1's row: refused by 7", s_model(activities=own), S_PLAN, 0, refused="7 1 0")
+    view("no plan", S, b"", 0, refused="8 0 0")
+    view("no model", b"", S_PLAN, 0, refused="1 0 0")
 
 
 def largest():

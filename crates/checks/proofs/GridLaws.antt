@@ -17,13 +17,14 @@ use Rattle.laws.proofs.Sums.{greatest-ext}
 use Rattle.laws.proofs.Words.{wordOf-ext}
 use Rattle.records.specs.declared.Pass.{Pass}
 use Rattle.records.specs.Reads.{passNumbers}
-use Rattle.checks.specs.Tables.{Holds, HoldsOnly, after, waitsFrom, finishOf, fromOf, outranksFrom, rankMask, Timed}
-use Rattle.checks.specs.Rules.{activityRules, plainTicks, strictTicks, tickRules, gridRules}
+use Rattle.checks.specs.declared.tick.TickRule.{TickRule}
+use Rattle.checks.specs.Tables.{Holds, HoldsOnly, after, waitsFrom, finishOf, fromOf, outranksFrom, rankMask, loadRule, rankRule, Ranked, Tabled, Timed}
+use Rattle.checks.specs.Rules.{activityRules, twoRules, tickRules, gridRules}
 use Rattle.checks.proofs.EfeTable.{from-after}
 use Rattle.checks.proofs.ListLaws.{list-stops, list-goes-on}
 
 grid-split : (strict : Bool) (m : Model) (p : Plan) → activityRules m p ++ tickRules strict m p ≡ gridRules strict m p
-unfolding activityRules plainTicks strictTicks plainRules strictRules
+unfolding activityRules twoRules plainRules strictRules
 grid-split true m p = refl
 grid-split false m p = refl
 
@@ -42,22 +43,22 @@ module _ (m : Model) (p : Plan) where
 
   -- a tick's rule is broken, before 30
   pub plain-stops : (strict : Bool) (t : Pass) (x : Refusal) → t ≡ Pass.Refused x
-      → passNumbers t ≡ firstBreak (plainTicks m p) → passNumbers t ≡ firstBreak (tickRules strict m p)
-  plain-stops true t x told e = list-stops t x (plainTicks m p) (strictTicks m p) told e
+      → passNumbers t ≡ firstBreak (twoRules false m p) → passNumbers t ≡ firstBreak (tickRules strict m p)
+  plain-stops true t x told e = list-stops t x (twoRules false m p) (twoRules true m p) told e
   plain-stops false t x told e = e
 
   -- the plain check ends, and the strict check goes on
   pub plain-holds : (strict : Bool) (t : Pass) → strict ≡ false → t ≡ Pass.Holds
-      → passNumbers t ≡ firstBreak (plainTicks m p) → passNumbers Pass.Holds ≡ firstBreak (tickRules strict m p)
+      → passNumbers t ≡ firstBreak (twoRules false m p) → passNumbers Pass.Holds ≡ firstBreak (tickRules strict m p)
   plain-holds strict t no-more told e =
       subst (λ (b : Bool). passNumbers Pass.Holds ≡ firstBreak (tickRules b m p)) (sym no-more) (sym (ap passNumbers told) ∙ e)
 
   pub strict-decides : (strict : Bool) (t u : Pass) → strict ≡ true → t ≡ Pass.Holds
-      → passNumbers t ≡ firstBreak (plainTicks m p) → passNumbers u ≡ firstBreak (strictTicks m p)
+      → passNumbers t ≡ firstBreak (twoRules false m p) → passNumbers u ≡ firstBreak (twoRules true m p)
       → passNumbers u ≡ firstBreak (tickRules strict m p)
   strict-decides strict t u more told e h =
       subst (λ (b : Bool). passNumbers u ≡ firstBreak (tickRules b m p)) (sym more)
-      (list-goes-on t (plainTicks m p) (strictTicks m p) (passNumbers u) told e h)
+      (list-goes-on t (twoRules false m p) (twoRules true m p) (passNumbers u) told e h)
 
   -- the tables of ticks
   pub timed : (counts finishes ends froms priorities : List ℕ) → m .activities ≤ 32 → Holds m counts (countOf m p)
@@ -75,6 +76,22 @@ module _ (m : Model) (p : Plan) where
     end-ticks = he;
     ranks = hp;
   }
+
+  -- the tables of a rule of ticks
+  pub tabled : (rule : TickRule) (froms ends priorities masks : List ℕ) → Timed m p froms ends priorities → Ranked rule m masks
+      → Tabled rule m p froms ends masks
+  tabled rule froms ends priorities masks t r =
+      record { few = t .few; from-ticks = t .from-ticks; end-ticks = t .end-ticks; ranked = r }
+
+  -- the rule of how many are active needs no ranks, and the other needs those of its check
+  pub load-ranks : (strict : Bool) (masks : List ℕ) → Ranked (loadRule strict) m masks
+  load-ranks true masks = tt
+  load-ranks false masks = tt
+
+  pub rank-ranks : (strict : Bool) (masks : List ℕ) → HoldsOnly (m .activities) masks (rankMask m strict)
+      → Ranked (rankRule strict) m masks
+  rank-ranks true masks h = h
+  rank-ranks false masks h = h
 
   -- the masks by rank, from the priorities
   pub ranked : (level : Bool) (n : ℕ) (priorities masks : List ℕ) → n ≡ m .activities → Holds m priorities (priorityOf m)

@@ -38,9 +38,13 @@ use Rattle.checks.specs.Tables.{
 }
 use Rattle.checks.proofs.WaitLaws.{waits-when, idle-mask, preemption-mask, tie-mask, cores-mask}
 
--- nothing waits
-pub and-none : (x y : ℕ) → x ≡ 0 → 0 ≡ bitAnd x y
-and-none x y e = sym (ap (λ (w : ℕ). bitAnd w y) e ∙ and-zero-l y)
+-- where nothing waits, nothing breaks a rule that is tried of the waiting
+pub none-waits : (t : Bool) (x : ℕ) → x ≡ 0 → 0 ≡ cond t x 0
+none-waits true x e = sym e
+none-waits false x e = refl
+
+pub none-contested : (t : Bool) (x y : ℕ) → x ≡ 0 → 0 ≡ cond t (bitAnd x y) 0
+none-contested t x y e = none-waits t (bitAnd x y) (ap (λ (w : ℕ). bitAnd w y) e ∙ and-zero-l y)
 
 -- the word of fewer bits, where there are no others
 fewer-bits : (n : ℕ) (p q : ℕ → Bool) → n ≤ 32 → ((b : ℕ) → b < n → p b ≡ q b) → ((b : ℕ) → n ≤ b → p b ≡ false)

@@ -10,11 +10,11 @@ use Rattle.schedule.specs.Bounded.{all, bit, wordOf, _⇒_}
 use Rattle.schedule.specs.Rule.{Rule}
 use Rattle.schedule.specs.Model.{Model}
 use Rattle.schedule.specs.Plan.{Plan, active}
-use Rattle.schedule.specs.Checks.{countOf, rule21, rule22, rule23, rule24, rule25, rule26, rule27, rule28, rule29, rule30, rule31, plainRules, strictRules}
+use Rattle.schedule.specs.Checks.{countOf, rule21, rule22, rule23, rule24, rule25, rule26, rule27, plainRules, strictRules}
 use Rattle.schedule.specs.Answers.{plainChecks, strictChecks}
 use Rattle.schedule.specs.declared.RuleRefusal.{RuleRefusal}
 use Rattle.checks.specs.declared.activity.ActivityRule.{ActivityRule}
-use Rattle.checks.specs.Tables.{Holds, finishOf}
+use Rattle.checks.specs.Tables.{Holds, finishOf, tickRule, loadRule, rankRule}
 
 abbrev pub activityRule : ActivityRule → Model → Plan → Rule
 activityRule ActivityRule.Window = rule21
@@ -57,16 +57,14 @@ unfoldable pub activityRules : Model → Plan → List Rule
 activityRules m p =
     rule21 m p ∷ rule22 m p ∷ rule23 m p ∷ rule24 m p ∷ rule25 m p ∷ rule26 m p ∷ rule27 m p ∷ []
 
-unfoldable pub plainTicks : Model → Plan → List Rule
-plainTicks m p = rule28 m p ∷ rule29 m p ∷ []
-
-unfoldable pub strictTicks : Model → Plan → List Rule
-strictTicks m p = rule30 m p ∷ rule31 m p ∷ []
+-- 28 and 29 of the plain check, 30 and 31 of the strict check
+unfoldable pub twoRules : Bool → Model → Plan → List Rule
+twoRules strict m p = tickRule (loadRule strict) m p ∷ tickRule (rankRule strict) m p ∷ []
 
 -- the rules of ticks of the plain or the strict check
 abbrev pub tickRules : Bool → Model → Plan → List Rule
-tickRules true m p = plainTicks m p ++ strictTicks m p
-tickRules false m p = plainTicks m p
+tickRules true m p = twoRules false m p ++ twoRules true m p
+tickRules false m p = twoRules false m p
 
 -- the rules of the plain or the strict check on a plan, and on two byte strings
 abbrev pub gridRules : Bool → Model → Plan → List Rule

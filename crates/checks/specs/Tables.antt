@@ -75,6 +75,15 @@ tickRule TickRule.Preemption = rule29
 tickRule TickRule.Idle = rule30
 tickRule TickRule.Tie = rule31
 
+-- the two rules of the plain check and the two of the strict check: of how many are active, and by rank
+abbrev pub loadRule : Bool → TickRule
+loadRule true = TickRule.Idle
+loadRule false = TickRule.Cores
+
+abbrev pub rankRule : Bool → TickRule
+rankRule true = TickRule.Tie
+rankRule false = TickRule.Preemption
+
 abbrev pub tickName : TickRule → RuleRefusal
 tickName TickRule.Cores = RuleRefusal.Cores
 tickName TickRule.Preemption = RuleRefusal.Preemption

@@ -16,8 +16,9 @@ use schedule::Refusal;
 use schedule::RuleRefusal;
 use schedule::Verdict;
 use tables::Column;
-use tick::TickRule;
+use tick::load_rule;
 use tick::over_ticks;
+use tick::rank_rule;
 ghost use mathlib.Core.Path.{_≡_};
 ghost use mathlib.Core.Option.{some};
 ghost use Rattle.schedule.specs.Rule.{firstBreak};
@@ -27,7 +28,7 @@ ghost use Rattle.schedule.specs.Answers.{answer, figures, plainVerdict, strictV
 ghost use Rattle.schedule.specs.Numbers.{ruleNumber, verdictNumbers};
 ghost use Rattle.laws.proofs.Formed.{Formed};
 ghost use Rattle.checks.specs.Tables.{Timed};
-ghost use Rattle.checks.specs.Rules.{Counted, activityRules, plainTicks, strictTicks, tickRules, gridRules, checksOf};
+ghost use Rattle.checks.specs.Rules.{Counted, activityRules, twoRules, tickRules, gridRules, checksOf};
 ghost use Rattle.records.specs.Reads.{passNumbers};
 
 // A rule broken at a place.
@@ -140,47 +141,28 @@ fn activity_rules(
     )
 }
 
-// Rules 28 and 29.
-fn plain_ticks(
+// Rules 28 and 29 or, strictly, 30 and 31: a rule of every tick, and then one that compares by rank.
+fn two_rules(
     s: &[u8],
     r: &[u8],
+    strict: bool,
     froms: &[u32; 32],
     ends: &[u32; 32],
     priorities: &[u32; 32],
 ) -> Pass
     requires { ⌜ Timed (model (now s)) (plan (now r)) (now froms) (now ends) (now priorities) ⌝ }
-    ensures { λ x. ⌜ passNumbers x ≡ firstBreak (plainTicks (model (now (s .entry))) (plan (now (r .entry)))) ⌝ }
+    ensures { λ x. ⌜ passNumbers x ≡ firstBreak (twoRules strict (model (now (s .entry))) (plan (now (r .entry)))) ⌝ }
 {
     let sizes = records::model::counts(s);
-    let above = tables::rank_masks(sizes.activities as usize, priorities, false);
-    let cores = over_ticks(TickRule::Cores, s, r, froms, ends, &above);
-    if let Pass::Refused(_) = cores {
-        return cores;
+    let masks = tables::rank_masks(sizes.activities as usize, priorities, strict);
+    let load = over_ticks(load_rule(strict), s, r, froms, ends, &masks);
+    if let Pass::Refused(_) = load {
+        return load;
     }
-    over_ticks(TickRule::Preemption, s, r, froms, ends, &above)
+    over_ticks(rank_rule(strict), s, r, froms, ends, &masks)
 }
 
-// Rules 30 and 31: "the strict check goes on".
-fn strict_ticks(
-    s: &[u8],
-    r: &[u8],
-    froms: &[u32; 32],
-    ends: &[u32; 32],
-    priorities: &[u32; 32],
-) -> Pass
-    requires { ⌜ Timed (model (now s)) (plan (now r)) (now froms) (now ends) (now priorities) ⌝ }
-    ensures { λ x. ⌜ passNumbers x ≡ firstBreak (strictTicks (model (now (s .entry))) (plan (now (r .entry)))) ⌝ }
-{
-    let sizes = records::model::counts(s);
-    let level = tables::rank_masks(sizes.activities as usize, priorities, true);
-    let idle = over_ticks(TickRule::Idle, s, r, froms, ends, &level);
-    if let Pass::Refused(_) = idle {
-        return idle;
-    }
-    over_ticks(TickRule::Tie, s, r, froms, ends, &level)
-}
-
-// The rules of ticks of a check, in order.
+// The rules of ticks of a check, in order: "the strict check goes on with 30 and 31".
 fn tick_rules(
     s: &[u8],
     r: &[u8],
@@ -192,12 +174,12 @@ fn tick_rules(
     requires { ⌜ Timed (model (now s)) (plan (now r)) (now froms) (now ends) (now priorities) ⌝ }
     ensures { λ x. ⌜ passNumbers x ≡ firstBreak (tickRules strict (model (now (s .entry))) (plan (now (r .entry)))) ⌝ }
 {
-    let plain = plain_ticks(s, r, froms, ends, priorities);
+    let plain = two_rules(s, r, false, froms, ends, priorities);
     if let Pass::Refused(_) = plain {
         return plain;
     }
     if strict {
-        return strict_ticks(s, r, froms, ends, priorities);
+        return two_rules(s, r, true, froms, ends, priorities);
     }
     Pass::Holds
 }

@@ -7,10 +7,10 @@ ghost use mathlib.Core.Path.{_≡_};
 ghost use Prim.Native.Nat.{ℕ, _≤_, _<_};
 ghost use mathlib.Core.Bool.{_&&_, not, cond};
 ghost use lib.Bits.{bitAnd, bitOr};
-ghost use lib.Dec.{leb, ltb};
+ghost use lib.Dec.{eqb, leb, ltb};
 ghost use lib.ListN.{getD};
-ghost use Rattle.schedule.specs.Bounded.{bit};
-ghost use Rattle.checks.specs.Tables.{outrankingOf, breakingOf, tickName, tickRule, Tabled};
+ghost use Rattle.schedule.specs.Bounded.{bit, ones};
+ghost use Rattle.checks.specs.Tables.{outrankingOf, breakingOf, tickName, tickRule, loadRule, rankRule, Tabled};
 ghost use Rattle.checks.specs.Windows.{without};
 ghost use Rattle.schedule.specs.Rule.{break};
 ghost use Rattle.schedule.specs.Model.{model};
@@ -27,6 +27,28 @@ pub(crate) enum TickRule {
     Idle,
     // 31 "with exactly c ones, no waiting B has the priority of an active activity with a larger number"
     Tie,
+}
+
+// The rule of how many are active, of the plain check or the further one of the strict check.
+pub(crate) fn load_rule(strict: bool) -> TickRule
+    ensures { λ r. ⌜ r ≡ loadRule strict ⌝ }
+{
+    if strict {
+        TickRule::Idle
+    } else {
+        TickRule::Cores
+    }
+}
+
+// And the rule that compares a waiting activity with the active ones.
+pub(crate) fn rank_rule(strict: bool) -> TickRule
+    ensures { λ r. ⌜ r ≡ rankRule strict ⌝ }
+{
+    if strict {
+        TickRule::Tie
+    } else {
+        TickRule::Preemption
+    }
 }
 
 // Two words joined.
@@ -50,29 +72,39 @@ fn outranking(word: u32, masks: &[u32; 32]) -> u32
     all
 }
 
-// The waiting that stand in the mask of some active activity, where every core is busy.
-fn contested(word: u32, full: bool, waiting: u32, masks: &[u32; 32]) -> u32
-    ensures { λ r. ⌜ r ≡ cond full (bitAnd waiting (outrankingOf (now (masks .entry)) word)) 0 ⌝ }
+// 29 and 31: the waiting that stand in the mask of some active activity, where every core is busy.
+fn contested(word: u32, cores: u32, waiting: u32, masks: &[u32; 32]) -> u32
+    ensures { λ r. ⌜ r ≡ cond (eqb (ones word) cores) (bitAnd waiting (outrankingOf (now (masks .entry)) word)) 0 ⌝ }
 {
-    if full {
-        if waiting != 0 {
-            return waiting & outranking(word, masks);
-        }
+    if waiting == 0 {
+        return 0;
+    }
+    if bits::ones(word) == cores {
+        return waiting & outranking(word, masks);
     }
     0
+}
+
+// 30: the waiting, where a core is free.
+fn idle(word: u32, cores: u32, waiting: u32) -> u32
+    ensures { λ r. ⌜ r ≡ cond (ltb (ones word) cores) waiting 0 ⌝ }
+{
+    if waiting == 0 {
+        return 0;
+    }
+    if bits::ones(word) < cores { waiting } else { 0 }
 }
 
 // The activities that break a rule at a tick with this word, where the open ones may wait; for 28, which names none, bit 0.
 fn breaking(rule: TickRule, word: u32, cores: u32, opened: u32, masks: &[u32; 32]) -> u32
     ensures { λ r. ⌜ r ≡ breakingOf rule word cores opened (now (masks .entry)) ⌝ }
 {
-    let load = bits::ones(word);
     let waiting = windows::without(opened, word);
     match rule {
-        TickRule::Cores => if load <= cores { 0 } else { 1 },
-        TickRule::Preemption => contested(word, load == cores, waiting, masks),
-        TickRule::Idle => if load < cores { waiting } else { 0 },
-        TickRule::Tie => contested(word, load == cores, waiting, masks),
+        TickRule::Cores => if bits::ones(word) <= cores { 0 } else { 1 },
+        TickRule::Preemption => contested(word, cores, waiting, masks),
+        TickRule::Idle => idle(word, cores, waiting),
+        TickRule::Tie => contested(word, cores, waiting, masks),
     }
 }
 

@@ -110,7 +110,7 @@ module _ (s q : List ℕ) (q-bytes : Bytes q) (formed : AllHold (modelForm s))
     unfolding runRules deadlineRule
     on-time a l = settles .1 .0 a 0 l (omega arith)
 
-    machine-fits : Fits (machinePlan (model s) (choice q))
+    pub machine-fits : Fits (machinePlan (model s) (choice q))
     unfolding machinePlan machineStart machineEnd machineOwes
     machine-fits =
         let n = model-facts .threads .1 in

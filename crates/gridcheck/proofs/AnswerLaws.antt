@@ -4,15 +4,10 @@ use Prim.Native.Nat.{ℕ, _≤_}
 use mathlib.Core.List.{List}
 use mathlib.Core.Path.{_≡_}
 use lib.ListN.{length}
-use lib.Seq.{take-all}
 use Rattle.schedule.specs.Answers.{Answer, Figures, plainVerdict, strictVerdict}
-use Rattle.schedule.specs.Streams.{inputLimit, taken, firstRecord, secondRecord}
+use Rattle.schedule.specs.Streams.{inputLimit, firstRecord, secondRecord}
 use Rattle.schedule.specs.Lines.{checkLines, gridcheck}
-
--- "take them as all there is"
-taken-whole : (s : List ℕ) → length s ≤ inputLimit → taken s ≡ s
-unfolding taken
-taken-whole s h = take-all inputLimit s h
+use Rattle.laws.proofs.LinesLaws.{taken-whole}
 
 pub answered : (s : List ℕ) {m p : List ℕ} {plain strict : Answer Figures} → length s ≤ inputLimit → m ≡ firstRecord s
     → p ≡ secondRecord s → plain ≡ plainVerdict m p → strict ≡ strictVerdict m p

@@ -6,7 +6,7 @@ use native.Mathlib.Decide.{decLt}
 use native.Mathlib.Nat.{mul-zero, mul-suc, mul-le-mul-left, pow-zero, pow-suc}
 use native.Mathlib.Omega.{arith}
 use mathlib.Core.List.{List, [], _∷_, _++_}
-use mathlib.Core.Path.{_≡_, refl, sym, _∙_}
+use mathlib.Core.Path.{_≡_, refl, sym, ap₂, _∙_}
 use lib.ListN.{length, getD, length-append, List·getD-append, List·getD-eq-default}
 use lib.Seq.{getD-append-add, getD-at}
 use Rattle.schedule.specs.Bounded.{rows}
@@ -102,6 +102,11 @@ getD-rows w (suc n) f h =
     up-to (λ j. (i : ℕ) → i < w → getD (rows n f ++ f n) (w * j + i) 0 ≡ getD (f j) i 0) n
     (λ j l i b. List·getD-append (rows n f) (f n) 0 (w * j + i) (omega (arith, row-lt w n j i l b)) ∙ before j l i b)
     (λ i b. getD-behind (rows n f) (f n) i (w * n + i) (omega arith))
+
+pub rows-ext : (n : ℕ) (f g : ℕ → List ℕ) → ((j : ℕ) → j < n → f j ≡ g j) → rows n f ≡ rows n g
+unfolding rows
+rows-ext zero f g h = refl
+rows-ext (suc n) f g h = ap₂ _++_ (rows-ext n f g (λ j l. h j (omega arith))) (h n (omega arith))
 
 pub bytes-rows : (n : ℕ) (f : ℕ → List ℕ) → ((j : ℕ) → j < n → Bytes (f j)) → Bytes (rows n f)
 unfolding rows

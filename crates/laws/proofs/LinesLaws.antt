@@ -1,11 +1,15 @@
--- A number in decimal: its digits one by one, and that they read back as the number, so that its fuel is enough.
+-- A number in decimal: its digits one by one, and that they read back as the number, so that its fuel is enough; and an
+-- input within the limit.
 -- Assumes nothing.
 use Prim.Native.Nat.{ℕ, zero, suc, _+_, _-_, _*_, _/_, _%_, _≤_, _<_}
 use native.Mathlib.Decide.{decLt}
 use native.Mathlib.Omega.{arith}
 use mathlib.Core.List.{List, [], _∷_, _++_}
 use mathlib.Core.Path.{_≡_, refl, sym, ap, _∙_}
+use lib.ListN.{length}
+use lib.Seq.{take-all}
 use borrow.Author.Tests.{lt-ltb, le-ltb}
+use Rattle.schedule.specs.Streams.{inputLimit, taken}
 use Rattle.schedule.specs.Lines.{digits, decimal}
 
 -- a number below 10 is one digit; of any other the last digit stands behind the others
@@ -63,3 +67,10 @@ read-below (suc k) n h = elim (decLt n 10) [
 -- a number's decimal digits read back as the number
 pub decimal-read : (n : ℕ) → readOn 0 (decimal n) ≡ n
 decimal-read n = read-below (suc n) n (omega arith)
+
+-- ---- the input
+
+-- "take them as all there is", of an input within the limit
+pub taken-whole : (s : List ℕ) → length s ≤ inputLimit → taken s ≡ s
+unfolding taken
+taken-whole s h = take-all inputLimit s h

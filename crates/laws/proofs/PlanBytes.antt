@@ -24,18 +24,22 @@ pub record Fits (p : Plan) : Type 0 where
   pub end : (a : ℕ) → a < p .activities → p .end a < 65536
   pub word : (t : ℕ) → t < p .horizon → p .word t < 256 ^ 4
 
--- the plan's bytes read as a plan: its length, its version and every part
-pub record ReadsBack (p : Plan) : Type 0 where
-  pub length : field (planBytes p) 0 4 ≡ planLength (p .threads) (p .activities) (p .horizon)
-  pub version : field (planBytes p) 4 1 ≡ 1
-  pub threads : plan (planBytes p) .threads ≡ p .threads
-  pub activities : plan (planBytes p) .activities ≡ p .activities
-  pub horizon : plan (planBytes p) .horizon ≡ p .horizon
-  pub release : (j : ℕ) → j < p .threads → plan (planBytes p) .release j ≡ p .release j
-  pub period : (j : ℕ) → j < p .threads → plan (planBytes p) .period j ≡ p .period j
-  pub start : (a : ℕ) → a < p .activities → plan (planBytes p) .start a ≡ p .start a
-  pub end : (a : ℕ) → a < p .activities → plan (planBytes p) .end a ≡ p .end a
-  pub word : (t : ℕ) → t < p .horizon → plan (planBytes p) .word t ≡ p .word t
+-- bytes that begin with a plan's, read as a plan: its length, its version and every part
+pub record ReadsFrom (p : Plan) (r : List ℕ) : Type 0 where
+  pub length : field r 0 4 ≡ planLength (p .threads) (p .activities) (p .horizon)
+  pub version : field r 4 1 ≡ 1
+  pub threads : plan r .threads ≡ p .threads
+  pub activities : plan r .activities ≡ p .activities
+  pub horizon : plan r .horizon ≡ p .horizon
+  pub release : (j : ℕ) → j < p .threads → plan r .release j ≡ p .release j
+  pub period : (j : ℕ) → j < p .threads → plan r .period j ≡ p .period j
+  pub start : (a : ℕ) → a < p .activities → plan r .start a ≡ p .start a
+  pub end : (a : ℕ) → a < p .activities → plan r .end a ≡ p .end a
+  pub word : (t : ℕ) → t < p .horizon → plan r .word t ≡ p .word t
+
+-- the plan's bytes themselves
+abbrev pub ReadsBack : Plan → Type 0
+ReadsBack p = ReadsFrom p (planBytes p)
 
 -- the row of two fields of 2 bytes, and the bytes of a plan from each of its parts on
 abbrev pair : (ℕ → ℕ) → (ℕ → ℕ) → ℕ → List ℕ
@@ -121,14 +125,13 @@ stands-pairs s at n f g c h small small′ = (λ j l. both j l .0, λ j l. both 
         stands-second s at (rows n (pair f g)) c h (4 * n)
         (length-rows 4 n (pair f g) (λ j _. length-pair f g j))
 
-pub reads-back : (p : Plan) → Fits p → ReadsBack p
+pub reads-from : (p : Plan) → Fits p → (r : List ℕ) → Stands r 0 (planBytes p) → ReadsFrom p r
 unfolding planBytes plan
-reads-back p fits =
-    let r : List ℕ = planBytes p in
+reads-from p fits r stands =
     let n : ℕ = p .threads in
     let m : ℕ = p .activities in
     let H : ℕ = p .horizon in
-    let (length, h₄) = stands-next r 0 4 (planLength n m H) (fromVersion p) (stands-whole r) (fits .length) in
+    let (length, h₄) = stands-next r 0 4 (planLength n m H) (fromVersion p) stands (fits .length) in
     let (version, h₅) = stands-next r 4 1 1 (fromThreads p) h₄ (omega arith) in
     let (threads, h₆) = stands-next r 5 1 n (fromActivities p) h₅ (fits .threads) in
     let (activities, h₇) = stands-next r 6 1 m (fromHorizon p) h₆ (fits .activities) in
@@ -150,3 +153,6 @@ reads-back p fits =
       word = λ t l. rw (threads, activities)
           (stands-field r (at + 4 * m + 4 * t) 4 (p .word t) (row t l) (fits .word t l));
     }
+
+pub reads-back : (p : Plan) → Fits p → ReadsBack p
+reads-back p fits = reads-from p fits (planBytes p) (stands-whole (planBytes p))

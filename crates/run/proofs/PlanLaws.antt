@@ -20,7 +20,7 @@ use Rattle.schedule.specs.Answers.{Figures}
 use Rattle.laws.proofs.Steps.{total-start, total-next}
 use Rattle.laws.proofs.Tests.{up-to}
 use Rattle.laws.proofs.Lowest.{lowest-is, lowest-unique}
-use Rattle.laws.proofs.FieldLaws.{length-bytes, length-rows}
+use Rattle.laws.proofs.FieldLaws.{length-bytes, length-rows, rows-ext}
 use Rattle.bits.proofs.WordLaws.{lowest-same}
 use Rattle.fields.specs.Put.{put}
 use Rattle.fields.proofs.PutLaws.{put-nil, put-next, put-part}
@@ -145,11 +145,6 @@ part-says at k b l g h e p =
 pub length-head : (n m h : ℕ) → length (headBytes n m h) ≡ 9
 unfolding headBytes
 length-head n m h = simp (length-append, length-bytes)
-
-rows-ext : (n : ℕ) (f g : ℕ → List ℕ) → ((j : ℕ) → j < n → f j ≡ g j) → rows n f ≡ rows n g
-unfolding rows
-rows-ext zero f g h = refl
-rows-ext (suc n) f g h = ap₂ _++_ (rows-ext n f g (λ j l. h j (omega arith))) (h n (omega arith))
 
 pub pairs-ext : (n : ℕ) (f g f′ g′ : ℕ → ℕ) → ((j : ℕ) → j < n → f j ≡ f′ j) → ((j : ℕ) → j < n → g j ≡ g′ j)
     → pairRows n f g ≡ pairRows n f′ g′

@@ -4,8 +4,14 @@
 // the run, and for each its model, its choice and the buffer that is lent; then how many cases of the view, and for each
 // its model, its plan and the tick, each record behind its length. These numbers take 4 bytes each, the tick 8,
 // big-endian. For each case a line with its number, then the lines that gridcheck or gridrun prints of it; of a run also
-// the buffer afterwards, byte by byte in decimal; of a view its word, in decimal, or past.
+// the buffer afterwards, byte by byte in decimal; of a view what its making answers, and its word, in decimal, or past.
 use libc::STDOUT_FILENO;
+use numbers::form_number;
+use numbers::rule_number;
+use numbers::run_number;
+use records::Pass;
+use schedule::Place;
+use schedule::Refusal;
 use schedule::WordAt;
 ghost use Rattle.io.specs.Counts.{Counts};
 
@@ -94,6 +100,30 @@ fn next_tick(fd: i32) -> usize {
     high * 4294967296 + low
 }
 
+// Prints a refusal's number and place.
+fn print_refused(number: u32, at: Place) {
+    io::write_all(STDOUT_FILENO, b"refused ");
+    io::print_decimal(STDOUT_FILENO, number as u64);
+    io::write_all(STDOUT_FILENO, b" ");
+    io::print_decimal(STDOUT_FILENO, at.a as u64);
+    io::write_all(STDOUT_FILENO, b" ");
+    io::print_decimal(STDOUT_FILENO, at.b as u64);
+    io::write_all(STDOUT_FILENO, b"\n");
+}
+
+// Prints what the making of a view answers.
+fn print_making(made: Pass) {
+    let Pass::Refused(why) = made else {
+        io::write_all(STDOUT_FILENO, b"made\n");
+        return;
+    };
+    match why {
+        Refusal::Form(form, at) => print_refused(form_number(form), at),
+        Refusal::Rule(rule, at) => print_refused(rule_number(rule), at),
+        Refusal::Run(run, at) => print_refused(run_number(run), at),
+    }
+}
+
 // Prints what a view gives.
 fn print_word(found: WordAt) {
     match found {
@@ -108,7 +138,7 @@ fn print_word(found: WordAt) {
     }
 }
 
-// Reads the next case of the view and prints what it gives.
+// Reads the next case of the view and prints what its making answers and what it gives.
 fn next_view(fd: i32, number: u32) {
     let mut model = [0u8; 1024];
     let mut plan = [0u8; 17189];
@@ -116,6 +146,7 @@ fn next_view(fd: i32, number: u32) {
     let p = next_record(fd, &mut plan);
     let t = next_tick(fd);
     print_number(number);
+    print_making(view::refusal(&model[..m], &plan[..p]));
     print_word(view::word_at(&model[..m], &plan[..p], t));
 }
 

@@ -1,7 +1,9 @@
 -- `gridrun::main` is safe and ends: what was read lies within its buffer, and so do the lines. Assumes nothing.
-use Rattle.input.proofs.InputLaws.{bytes-le}
-use Rattle.text.proofs.PrintedLaws.{printed-le}
 use borrow.Author.Needs.{needs}
+use native.Mathlib.Omega.{arith}
+use lib.ListN.{length-take}
+use Rattle.text.proofs.PrintedLaws.{printed-le}
+use Rattle.input.proofs.InputLaws.{bytes-le}
 use Rattle.gridrun.proofs.main.Statement.{statement}
 use Rattle.gridrun.proofs.main.Tie as tie
 
@@ -26,35 +28,21 @@ fail-requires c κs = search needs
 returns : tie.Need-returns
 returns c = search needs
 
-sub-given : tie.Need-sub-given
-sub-given c = search needs
+sub-answer : tie.Need-sub-answer
+sub-answer c = search needs
 
-part-given-start : tie.Need-part-given-start
-part-given-start c = search needs
+part-answer-start : tie.Need-part-answer-start
+part-answer-start c = search needs
 
-part-given-end : tie.Need-part-given-end
-part-given-end c = bytes-le _ _ _ (c .before .before .before .before .before .fill .ensures) (c .before .before .read .given .1)
+part-answer-end : tie.Need-part-answer-end
+part-answer-end c =
+    bytes-le _ _ _ (c .before .before .before .before .before .fill .ensures) (c .before .before .read .given .1)
 
-first-record-requires : tie.Need-first-record-requires
-first-record-requires c κs = search needs
+slice-aggregate-answer : tie.Need-slice-aggregate-answer
+slice-aggregate-answer c = search needs
 
-second-record-requires : tie.Need-second-record-requires
-second-record-requires c κs = search needs
-
-slice-aggregate-run : tie.Need-slice-aggregate-run
-slice-aggregate-run c = search needs
-
-run-requires : tie.Need-run-requires
-run-requires c κs = search needs
-
-slice-aggregate-run-lines : tie.Need-slice-aggregate-run-lines
-slice-aggregate-run-lines c = search needs
-
-slice-aggregate-run-lines-2 : tie.Need-slice-aggregate-run-lines-2
-slice-aggregate-run-lines-2 c = search needs
-
-run-lines-requires : tie.Need-run-lines-requires
-run-lines-requires c κs = search needs
+answer-requires : tie.Need-answer-requires
+answer-requires c κs = simp length-take (omega (arith, c .before .before .before .before .before .before .before .fill .kept))
 
 sub-write-all : tie.Need-sub-write-all
 sub-write-all c = search needs
@@ -63,7 +51,7 @@ part-write-all-start : tie.Need-part-write-all-start
 part-write-all-start c = search needs
 
 part-write-all-end : tie.Need-part-write-all-end
-part-write-all-end c = let h = printed-le _ _ (c .before .before .run-lines .ensures) in search needs
+part-write-all-end c = let h = printed-le _ _ (c .before .before .answer .ensures) in search needs
 
 write-all-requires : tie.Need-write-all-requires
 write-all-requires c κs = search needs
@@ -91,16 +79,11 @@ main-spec =
     slice-aggregate-fail
     fail-requires
     returns
-    sub-given
-    part-given-start
-    part-given-end
-    first-record-requires
-    second-record-requires
-    slice-aggregate-run
-    run-requires
-    slice-aggregate-run-lines
-    slice-aggregate-run-lines-2
-    run-lines-requires
+    sub-answer
+    part-answer-start
+    part-answer-end
+    slice-aggregate-answer
+    answer-requires
     sub-write-all
     part-write-all-start
     part-write-all-end

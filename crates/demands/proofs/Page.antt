@@ -1,0 +1,87 @@
+-- The page that `gridrun` prints: its lines, made of the run's answer and of the buffer that the run leaves, are those of
+-- the machine's plan, whatever else stands in the buffer.
+-- Assumes nothing.
+use Prim.Native.Nat.{ℕ, _≤_, _<_}
+use native.Mathlib.Decide.{decLt}
+use native.Mathlib.Omega.{arith}
+use mathlib.Core.List.{List, _∷_, _++_}
+use mathlib.Core.Logic.{⊎-elim}
+use mathlib.Core.Path.{_≡_, refl, sym, ap, _∙_}
+use lib.ListN.{length, drop}
+use Rattle.schedule.specs.Bounded.{rows}
+use Rattle.schedule.specs.Fields.{Bytes}
+use Rattle.schedule.specs.Rule.{AllHold}
+use Rattle.schedule.specs.Model.{model, modelForm}
+use Rattle.schedule.specs.Choice.{choice}
+use Rattle.schedule.specs.Plan.{Plan, plan, planBytes}
+use Rattle.schedule.specs.Answers.{
+  Answer,
+  accepted,
+  refused,
+  Written,
+  machinePlan,
+  lengthNeeded,
+  runChecks,
+  runAnswer,
+  runBuffer,
+}
+use Rattle.schedule.specs.Lines.{shown, tickLine, runLines}
+use Rattle.laws.proofs.FieldLaws.{rows-ext}
+use Rattle.laws.proofs.Parts.{stands-whole, stands-first}
+use Rattle.laws.proofs.PlanBytes.{ReadsFrom, reads-from}
+use Rattle.laws.proofs.FirstBreak.{hold-append}
+use Rattle.laws.proofs.VerdictLaws.{accepted-is-not-refused}
+use Rattle.demands.proofs.Demand2.{run-input, run-input-refused, run-short-buffer, run-accepted, buffer-accepted}
+use Rattle.demands.proofs.Demand3.{machine-fits}
+
+-- what a run that succeeds has passed
+module _ (s q : List ℕ) (room : ℕ) (w : Written) (e : runAnswer s q room ≡ accepted w) where
+  checked : AllHold (runChecks s q)
+  checked =
+      ⊎-elim (λ h. h)
+      (λ b. absurd (accepted-is-not-refused w (b .0) (sym e ∙ run-input-refused s q room (b .0) (b .1))))
+      (run-input s q)
+
+  roomy : lengthNeeded (model s) ≤ room
+  roomy =
+      elim (decLt room (lengthNeeded (model s))) [
+        | yes l ↦ absurd (accepted-is-not-refused w _ (sym e ∙ run-short-buffer s q room checked l))
+        | no l ↦ omega arith
+      ]
+
+-- the machine's plan is read from the front of the buffer
+read-from-buffer : (s q buffer : List ℕ) → Bytes q → (w : Written) → runAnswer s q (length buffer) ≡ accepted w
+    → ReadsFrom (machinePlan (model s) (choice q)) (planBytes (machinePlan (model s) (choice q)) ++ drop (w .length) buffer)
+unfolding runChecks
+read-from-buffer s q buffer bytes w e =
+    let p : Plan = machinePlan (model s) (choice q) in
+    let all = checked s q (length buffer) w e in
+    let both = hold-append (modelForm s) _ .0 all in
+    let settles = run-accepted s q (length buffer) w all (roomy s q (length buffer) w e) .0 e .0 in
+    reads-from p (machine-fits s q bytes (both .0) (both .1) settles) (planBytes p ++ drop (w .length) buffer)
+    (stands-first (planBytes p ++ drop (w .length) buffer) 0 (planBytes p) (drop (w .length) buffer)
+    (stands-whole (planBytes p ++ drop (w .length) buffer)))
+
+-- the page of a plan is the horizon and the words alone
+same-page : (w : Written) (p p′ : Plan) → p .horizon ≡ p′ .horizon → ((t : ℕ) → t < p′ .horizon → p .word t ≡ p′ .word t)
+    → runLines (accepted w) p ≡ runLines (accepted w) p′
+unfolding runLines
+same-page w p p′ e h =
+    ap (λ (lines : List ℕ). lines ++ (114 ∷ 117 ∷ 110 ∷ shown (accepted (w .figures))))
+    (ap (λ (k : ℕ). rows k (λ t. tickLine t (p .word t))) e
+    ∙ rows-ext (p′ .horizon) (λ t. tickLine t (p .word t)) (λ t. tickLine t (p′ .word t)) (λ t l. ap (tickLine t) (h t l)))
+
+pub page-written : (s q buffer : List ℕ) → Bytes q
+    → runLines (runAnswer s q (length buffer)) (plan (runBuffer s q buffer))
+    ≡ runLines (runAnswer s q (length buffer)) (machinePlan (model s) (choice q))
+unfolding runLines
+page-written s q buffer bytes = by (runAnswer s q (length buffer)) refl
+  where
+    by : (a : Answer Written) → runAnswer s q (length buffer) ≡ a
+        → runLines a (plan (runBuffer s q buffer)) ≡ runLines a (machinePlan (model s) (choice q))
+    by (refused x) e = refl
+    by (accepted w) e =
+        let back = read-from-buffer s q buffer bytes w e in
+        ap (λ (b : List ℕ). runLines (accepted w) (plan b)) (buffer-accepted s q buffer w e)
+        ∙ same-page w (plan (planBytes (machinePlan (model s) (choice q)) ++ drop (w .length) buffer)) (machinePlan (model s) (choice q))
+        (back .horizon) (back .word)
