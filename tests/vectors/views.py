@@ -24,7 +24,7 @@ def ticks():
 
 def makings():
     view("a plan that breaks 25 has a view", S, s_plan([2, 1, 1, 2, 4, 0, 0, 0]), 4, 4)
-    view("release 3 for thread 0: refused by 12", S, s_plan(chosen=[(3, 0), (0, 8)]), 0, refused="12 0 0")
+    view("release 3 for thread 0: refused by 12", S, s_plan(chosen=[(3, 0), (0, 8)]), 5, refused="12 0 0")
     view("bit 3 at tick 7: refused by 14", S, s_plan([2, 1, 1, 2, 0, 4, 0, 8], rows=S_ROWS), 0, refused="14 7 0")
     own = replaced(S_ACTIVITIES, 1, activity(1, (2, 3), delay=1, temporal=[1]))
     view("temporal mask 2 in activity 1's row: refused by 7", s_model(activities=own), S_PLAN, 0, refused="7 1 0")

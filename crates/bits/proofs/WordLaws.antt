@@ -145,16 +145,6 @@ pub with-high : (w b : ℕ) → 32 ≤ b → withBit w b ≡ w
 unfolding withBit
 with-high w b h = rw (le-ltb b 32 h)
 
-pub bit-with : (w b c : ℕ) → b < 32 → bit (withBit w b) c ≡ (bit w c || eqb c b)
-bit-with w b c h = ap (λ (x : ℕ). bit x c) (with-or w b h) ∙ bit-or w (2 ^ b) c ∙ ap (λ (t : Bool). bit w c || t) (bit-pow b c)
-
-pub with-lt : (w b : ℕ) → w < 2 ^ 32 → withBit w b < 2 ^ 32
-with-lt w b h =
-    elim (decLt b 32) [
-      | yes l ↦ rw (with-or w b l) (or-lt 32 w (2 ^ b) h (pow-lt l))
-      | no l ↦ rw (with-high w b (omega arith)) h
-    ]
-
 -- a word is its part in m and its part outside
 and-parts : (n w m : ℕ) → w < 2 ^ n → m < 2 ^ n → bitAnd w m + bitAnd w ((2 ^ n - 1) - m) ≡ w
 and-parts n w m hw hm = sym (or-disjoint a b apart) ∙ whole
@@ -215,14 +205,6 @@ bit-without w b c hw h l =
     ap (λ (x : ℕ). bit x c) (without-and w b hw h)
     ∙ bit-and w ((2 ^ 32 - 1) - 2 ^ b) c
     ∙ ap (λ (t : Bool). bit w c && t) (bit-not 32 (2 ^ b) c (pow-lt h) l ∙ ap not (bit-pow b c))
-
-pub without-le : (w b : ℕ) → withoutBit w b ≤ w
-unfolding withoutBit
-without-le w b = one (ltb b 32 && bit w b)
-  where
-    one : (t : Bool) → cond t (w - 2 ^ b) w ≤ w
-    one true = omega arith
-    one false = omega arith
 
 -- ---- what the code computes
 

@@ -1,15 +1,13 @@
 -- What the code of rules 21 to 27 answers at an activity is the mask of the rule's broken places there.
 -- Assumes nothing.
 use Prim.Native.Nat.{ℕ, _+_, _-_, _≤_, _<_}
-use native.Mathlib.Decide.{decLt}
 use native.Mathlib.Nat.{add-zero}
 use native.Mathlib.Omega.{arith}
-use mathlib.Core.Bool.{Bool, true, false, _&&_, not, cond, Bool·not-not}
+use mathlib.Core.Bool.{Bool, true, _&&_, not, cond, Bool·not-not}
 use mathlib.Core.List.{List}
 use mathlib.Core.Path.{_≡_, refl, sym, ap, ap₂, _∙_}
-use lib.Dec.{T, leb, ltb}
+use lib.Dec.{leb, ltb}
 use lib.ListN.{getD}
-use borrow.Author.Tests.{lt-leb, le-leb, lt-ltb, le-ltb}
 use Rattle.schedule.specs.Bounded.{bit, wordOf, _⇒_}
 use Rattle.schedule.specs.Fields.{Bytes}
 use Rattle.schedule.specs.Rule.{Rule}
@@ -26,17 +24,6 @@ use Rattle.checks.specs.declared.activity.ActivityRule.{ActivityRule}
 use Rattle.checks.specs.Tables.{Holds, finishOf}
 use Rattle.checks.proofs.MaskRow.{one-column}
 use Rattle.checks.specs.Rules.{activityRule, activityName, earlyFrom, noneOutside}
-
--- a start too early after a predecessor: before its end, or before its delay has passed since
-pub early-by-end : (start end delay : ℕ) → start < end → true ≡ not (leb (end + delay) start)
-early-by-end start end delay h = sym (ap not (lt-leb (end + delay) start (omega arith)))
-
-pub early-by-delay : (start end delay : ℕ) → end ≤ start → ltb (start - end) delay ≡ not (leb (end + delay) start)
-early-by-delay start end delay h =
-    elim (decLt (start - end) delay) [
-      | yes l ↦ lt-ltb (start - end) delay l ∙ sym (ap not (lt-leb (end + delay) start (omega arith)))
-      | no l ↦ le-ltb (start - end) delay (omega arith) ∙ sym (ap not (le-leb (end + delay) start (omega arith)))
-    ]
 
 -- 21, where only "none outside" is left to try
 pub window-outside : (m : Model) (p : Plan) (a : ℕ) (stray : Bool) → ltb (p .start a) (p .end a) ≡ true

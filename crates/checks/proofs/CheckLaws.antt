@@ -7,9 +7,9 @@ use mathlib.Core.Path.{_≡_, refl, sym, ap, _∙_}
 use Prim.Native.Nat.{ℕ}
 use Rattle.schedule.specs.Rule
 use Rattle.schedule.specs.Rule.{Rule, firstBreak, AllHold}
-use Rattle.schedule.specs.Model.{Model, model, modelForm}
-use Rattle.schedule.specs.Plan.{Plan, plan, planForm}
-use Rattle.schedule.specs.Answers.{Answer, accepted, refused, answer, Figures, figures, plainChecks, strictChecks}
+use Rattle.schedule.specs.Model.{model, modelForm}
+use Rattle.schedule.specs.Plan.{plan, planForm}
+use Rattle.schedule.specs.Answers.{accepted, refused, answer, figures, plainChecks, strictChecks}
 use Rattle.schedule.specs.Numbers.{refusalNumbers}
 use Rattle.schedule.specs.declared.Refusal.{Refusal}
 use Rattle.laws.proofs.FirstBreak.{none-iff, append-none, append-some}

@@ -1,24 +1,23 @@
 -- The rules of a whole check in the order in which the code tries them, and the tables that it tries them with.
 -- Assumes nothing.
-use Prim.Native.Nat.{ℕ, _+_, _-_, _≤_, _<_, max}
+use Prim.Native.Nat.{ℕ, _+_, _-_, _≤_, max}
 use native.Mathlib.Omega.{arith}
 use mathlib.Core.Bool.{Bool, true, false, _&&_, cond}
 use mathlib.Core.List.{List, _++_}
 use mathlib.Core.Path.{_≡_, refl, sym, subst, ap, ap₂, _∙_}
 use lib.Dec.{eqb, ltb}
-use lib.ListN.{getD}
 use Rattle.schedule.specs.Bounded.{wordOf}
-use Rattle.schedule.specs.Rule.{Rule, firstBreak}
+use Rattle.schedule.specs.Rule.{firstBreak}
 use Rattle.schedule.specs.Model.{Model, priorityOf, temporally, byData}
 use Rattle.schedule.specs.Plan.{Plan}
-use Rattle.schedule.specs.Checks.{countOf, efe, plainRules, strictRules}
+use Rattle.schedule.specs.Checks.{countOf, plainRules, strictRules}
 use Rattle.schedule.specs.declared.Refusal.{Refusal}
 use Rattle.laws.proofs.Sums.{greatest-ext}
 use Rattle.laws.proofs.Words.{wordOf-ext}
 use Rattle.records.specs.declared.Pass.{Pass}
 use Rattle.records.specs.Reads.{passNumbers}
 use Rattle.checks.specs.declared.tick.TickRule.{TickRule}
-use Rattle.checks.specs.Tables.{Holds, HoldsOnly, after, waitsFrom, finishOf, fromOf, outranksFrom, rankMask, loadRule, rankRule, Ranked, Tabled, Timed}
+use Rattle.checks.specs.Tables.{Holds, HoldsOnly, after, finishOf, fromOf, outranksFrom, rankMask, loadRule, rankRule, Ranked, Tabled, Timed}
 use Rattle.checks.specs.Rules.{activityRules, twoRules, tickRules, gridRules}
 use Rattle.checks.proofs.EfeTable.{from-after}
 use Rattle.checks.proofs.ListLaws.{list-stops, list-goes-on}

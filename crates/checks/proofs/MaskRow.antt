@@ -6,19 +6,9 @@ use mathlib.Core.Bool.{Bool, true, false, not, cond}
 use mathlib.Core.Option.{some, none}
 use mathlib.Core.Path.{_≡_, refl, sym, subst, ap, _∙_}
 use Rattle.schedule.specs.Bounded.{bit, lowest, wordOf}
-use Rattle.schedule.specs.Rule.{Rule, Refusal, break}
+use Rattle.schedule.specs.Rule.{Rule}
 use Rattle.laws.proofs.Lowest.{lowest-is}
-use Rattle.laws.proofs.RowLaws.{
-  refusalAt,
-  rowBreak,
-  ClearTo,
-  clear-again,
-  clear-end,
-  clear-stop,
-  brokenMask,
-  mask-clear,
-  mask-broken,
-}
+use Rattle.laws.proofs.RowLaws.{refusalAt, rowBreak, brokenMask, mask-clear, mask-broken}
 
 -- the row is broken, at the lowest bit
 pub row-stops : (r : Rule) (a mask b : ℕ) → r .columns ≤ 32 → mask ≡ brokenMask r a → b ≡ lowest 32 (bit mask) → b < 32

@@ -1,6 +1,6 @@
 -- What the tables say of a tick: the mask that `breaking` answers is the mask of the rule's broken places.
 -- Assumes nothing.
-use Prim.Native.Nat.{ℕ, _^_, _≤_, _<_}
+use Prim.Native.Nat.{ℕ, _≤_, _<_}
 use native.Mathlib.Decide.{decLt}
 use native.Mathlib.Nat.{lt-of-lt-of-le}
 use native.Mathlib.Omega.{arith}
@@ -23,19 +23,7 @@ use Rattle.laws.proofs.RowLaws.{brokenMask}
 use Rattle.bits.proofs.WordLaws.{bit-zero}
 use Rattle.checks.specs.declared.tick.TickRule.{TickRule}
 use Rattle.checks.specs.Windows.{openOf, without}
-use Rattle.checks.specs.Tables.{
-  some as someOf,
-  waitsFrom,
-  waitingMask,
-  outranking,
-  outrankingOf,
-  rankMask,
-  tickName,
-  tickRule,
-  breakingOf,
-  HoldsOnly,
-  Tabled,
-}
+use Rattle.checks.specs.Tables.{any, waitingMask, outranking, outrankingOf, rankMask, tickName, tickRule, breakingOf, HoldsOnly, Tabled}
 use Rattle.checks.proofs.WaitLaws.{waits-when, idle-mask, preemption-mask, tie-mask, cores-mask}
 
 -- where nothing waits, nothing breaks a rule that is tried of the waiting
@@ -58,10 +46,10 @@ fewer-bits n p q few h none =
     ])
 
 -- the same of some activity
-fewer-some : (n : ℕ) (p q : ℕ → Bool) → n ≤ 32 → ((b : ℕ) → b < n → p b ≡ q b) → ((b : ℕ) → n ≤ b → p b ≡ false)
-    → someOf 32 p ≡ someOf n q
-unfolding someOf
-fewer-some n p q few h none = ap not same
+fewer-any : (n : ℕ) (p q : ℕ → Bool) → n ≤ 32 → ((b : ℕ) → b < n → p b ≡ q b) → ((b : ℕ) → n ≤ b → p b ≡ false)
+    → any 32 p ≡ any n q
+unfolding any
+fewer-any n p q few h none = ap not same
   where
     same : all 32 (λ i. not (p i)) ≡ all n (λ i. not (q i))
     same = T-ext _ _
@@ -98,7 +86,7 @@ module _ (rule : TickRule) (m : Model) (p : Plan) (froms ends masks : List ℕ) 
       → outrankingOf masks word ≡ outranking (m .activities) (rankMask m level) word
   unfolding outrankingOf outranking
   outranking-is level ranked word =
-      wordOf-ext 32 _ _ (λ b _. fewer-some (m .activities) _ _ (h .few)
+      wordOf-ext 32 _ _ (λ b _. fewer-any (m .activities) _ _ (h .few)
       (λ a l. ap (λ (x : ℕ). bit word a && bit x b) (ranked .below a l))
       (λ a l. ap (λ (x : ℕ). bit word a && bit x b) (ranked .beyond a l)
       ∙ ap (λ (x : Bool). bit word a && x) (bit-zero b) ∙ and-false (bit word a)))

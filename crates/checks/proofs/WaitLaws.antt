@@ -1,26 +1,24 @@
 -- A rule's broken places at a tick, read off masks of waiting and outranking activities.
 -- Assumes nothing.
-use Prim.Native.Nat.{ℕ, zero, suc, _+_, _^_, _≤_, _<_, max}
+use Prim.Native.Nat.{ℕ, _+_, _^_, _≤_, _<_}
 use native.Mathlib.Nat.{lt-of-le-of-lt}
-use native.Mathlib.Numerals.{add-one}
 use native.Mathlib.Omega.{arith}
-use mathlib.Core.Bool.{Bool, true, false, _&&_, not, cond, _||_, Bool·not-not, or-false}
-use mathlib.Core.Logic.{_↔_, ⊎-elim}
-use mathlib.Core.Path.{_≡_, refl, sym, subst, ap, ap₂, _∙_}
-use lib.Bits.{bitAnd, bitOr, and-le-l}
+use mathlib.Core.Bool.{Bool, true, false, _&&_, not, cond, Bool·not-not}
+use mathlib.Core.Path.{_≡_, refl, sym, ap, ap₂, _∙_}
+use lib.Bits.{bitAnd, and-le-l}
 use lib.Dec.{T, leb, ltb, eqb}
 use Rattle.schedule.specs.Bounded.{all, greatest, ones, bit, wordOf, _⇒_}
 use Rattle.schedule.specs.Model.{Model, priorityOf, temporally, byData}
 use Rattle.schedule.specs.Plan.{Plan, active}
-use Rattle.schedule.specs.Checks.{efe, Waiting, waits, rule28, rule29, rule30, rule31}
-use Rattle.laws.proofs.Tests.{tests, T-and, T-not, T-all, T-leb, T-ltb}
-use Rattle.laws.proofs.Counting.{decT, T-ext, all-ext}
+use Rattle.schedule.specs.Checks.{waits, rule28, rule29, rule30, rule31}
+use Rattle.laws.proofs.Tests.{tests, T-leb}
+use Rattle.laws.proofs.Counting.{T-ext, all-ext}
 use Rattle.laws.proofs.Sums.{greatest-bound, greatest-each}
 use Rattle.laws.proofs.Sound.{waits-sound}
 use Rattle.laws.proofs.Words.{wordOf-ext, wordOf-lt, word-ext, bit-wordOf}
 use Rattle.laws.proofs.RowLaws.{brokenMask}
-use Rattle.bits.proofs.WordLaws.{bit-and, bit-or, zero-bits}
-use Rattle.checks.specs.Tables.{some, waitsFrom, waitingMask, rankMask, outranking}
+use Rattle.bits.proofs.WordLaws.{bit-and, zero-bits}
+use Rattle.checks.specs.Tables.{any, waitsFrom, waitingMask, rankMask, outranking}
 
 -- a term that counts only where a test passes
 counted : (t : Bool) (x : ℕ) → T t → cond t x 0 ≡ x
@@ -104,17 +102,17 @@ idle-mask m p t =
     (wordOf-ext (m .activities) _ _ (λ b _. Bool·not-not (waits m p t b)))
 
 -- some active activity that b outranks, by the test that 29 or 31 makes of the two
-some-not : (n : ℕ) (w : ℕ) (q : ℕ → Bool) → not (all n (λ a. bit w a ⇒ not (q a))) ≡ some n (λ a. bit w a && q a)
-unfolding some
-some-not n w q = ap not (all-ext n _ _ (λ a _. pointwise (bit w a) (q a)))
+any-not : (n : ℕ) (w : ℕ) (q : ℕ → Bool) → not (all n (λ a. bit w a ⇒ not (q a))) ≡ any n (λ a. bit w a && q a)
+unfolding any
+any-not n w q = ap not (all-ext n _ _ (λ a _. pointwise (bit w a) (q a)))
   where
     pointwise : (a b : Bool) → (a ⇒ not b) ≡ not (a && b)
     pointwise true b = refl
     pointwise false b = refl
 
-pub some-ext : (n : ℕ) (p q : ℕ → Bool) → ((i : ℕ) → i < n → p i ≡ q i) → some n p ≡ some n q
-unfolding some
-some-ext n p q h = ap not (all-ext n _ _ (λ i l. ap not (h i l)))
+pub any-ext : (n : ℕ) (p q : ℕ → Bool) → ((i : ℕ) → i < n → p i ≡ q i) → any n p ≡ any n q
+unfolding any
+any-ext n p q h = ap not (all-ext n _ _ (λ i l. ap not (h i l)))
 
 -- what breaks 29 or 31 with exactly c ones: the waiting that stand in the mask of some active activity, where `beats a b`
 -- is the test of the two that the rule makes, and mask a holds the b that pass it
@@ -130,10 +128,10 @@ contested m p t few full mask beats h =
     (wordOf-ext (m .activities) _ _ (λ b lb.
     not-implies (waits m p t b) (all (m .activities) (λ a. active p t a ⇒ not (beats a b)))
     ∙ ap (λ (x : Bool). waits m p t b && x)
-    (some-not (m .activities) (p .word t) (λ a. beats a b)
-    ∙ some-ext (m .activities) _ _ (λ a la. ap (λ (x : Bool). active p t a && x) (sym (h a b la lb)))))
+    (any-not (m .activities) (p .word t) (λ a. beats a b)
+    ∙ any-ext (m .activities) _ _ (λ a la. ap (λ (x : Bool). active p t a && x) (sym (h a b la lb)))))
     ∙ sym (and-words (m .activities) 32 (waits m p t)
-    (λ b. some (m .activities) (λ a. active p t a && bit (mask a) b)) few))
+    (λ b. any (m .activities) (λ a. active p t a && bit (mask a) b)) few))
 
 pub leb-not-ltb : (x y : ℕ) → leb x y ≡ not (ltb y x)
 leb-not-ltb x y = T-ext _ _ (λ h. simp tests (λ l. omega (arith, T-leb x y .0 h))) (λ h. T-leb x y .1 (at-most (simp tests at h)))
@@ -187,6 +185,3 @@ cores-mask m p t = one (leb (ones (p .word t)) (m .cores))
     one : (b : Bool) → 0 + cond (not b) (2 ^ 0) 0 ≡ cond b 0 1
     one true = refl
     one false = refl
-
-pub ltb-not-leb : (x y : ℕ) → ltb x y ≡ not (leb y x)
-ltb-not-leb x y = sym (Bool·not-not (ltb x y)) ∙ ap not (sym (leb-not-ltb y x))

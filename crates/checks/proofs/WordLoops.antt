@@ -18,7 +18,7 @@ use Rattle.laws.proofs.Steps.{count-next}
 use Rattle.laws.proofs.Words.{bit-wordOf, word-ext, wordOf-lt}
 use Rattle.bits.proofs.WordLaws.{bit-or, bit-zero}
 use Rattle.bits.proofs.Apart as apart
-use Rattle.checks.specs.Tables.{some, outranking, Tallied}
+use Rattle.checks.specs.Tables.{any, outranking, Tallied}
 
 module _ (rest a : ℕ) (fits : rest < 2 ^ 32) (more : ¬ (rest ≡ 0)) (low : a ≡ lowest 32 (bit rest)) where
   lowest-lt : a < 32
@@ -45,9 +45,9 @@ module _ (rest a : ℕ) (fits : rest < 2 ^ 32) (more : ¬ (rest ≡ 0)) (low : a
   ]
 
   -- some activity of the word has q: the lowest, or one of the others
-  some-next : (q : ℕ → Bool) → some 32 (λ i. bit rest i && q i) ≡ (q a || some 32 (λ i. bit (withoutBit rest a) i && q i))
-  unfolding some
-  some-next q = flip (all 32 (λ i. not (bit rest i && q i))) (q a) (all 32 (λ i. not (bit (withoutBit rest a) i && q i))) (T-ext _ _ there back)
+  any-next : (q : ℕ → Bool) → any 32 (λ i. bit rest i && q i) ≡ (q a || any 32 (λ i. bit (withoutBit rest a) i && q i))
+  unfolding any
+  any-next q = flip (all 32 (λ i. not (bit rest i && q i))) (q a) (all 32 (λ i. not (bit (withoutBit rest a) i && q i))) (T-ext _ _ there back)
     where
       flip : (x y z : Bool) → x ≡ (not y && z) → not x ≡ (y || not z)
       flip x true z e = ap not e
@@ -77,24 +77,24 @@ module _ (rest a : ℕ) (fits : rest < 2 ^ 32) (more : ¬ (rest ≡ 0)) (low : a
 
   -- masks joined: what is joined and what is left come to the same
   pub join-next : (all mask : ℕ) (masks : ℕ → ℕ) → mask ≡ masks a → (b : ℕ)
-      → (bit (bitOr all mask) b || some 32 (λ i. bit (withoutBit rest a) i && bit (masks i) b))
-      ≡ (bit all b || some 32 (λ i. bit rest i && bit (masks i) b))
+      → (bit (bitOr all mask) b || any 32 (λ i. bit (withoutBit rest a) i && bit (masks i) b))
+      ≡ (bit all b || any 32 (λ i. bit rest i && bit (masks i) b))
   join-next all mask masks e b =
       ap (λ (t : Bool). t || others) (bit-or all mask b)
       ∙ assoc (bit all b) (bit mask b) others
       ∙ ap (λ (t : Bool). bit all b || t)
-      (ap (λ (x : ℕ). bit x b || others) e ∙ sym (some-next (λ i. bit (masks i) b)))
+      (ap (λ (x : ℕ). bit x b || others) e ∙ sym (any-next (λ i. bit (masks i) b)))
     where
       others : Bool
-      others = some 32 (λ i. bit (withoutBit rest a) i && bit (masks i) b)
+      others = any 32 (λ i. bit (withoutBit rest a) i && bit (masks i) b)
 
       assoc : (x y z : Bool) → ((x || y) || z) ≡ (x || (y || z))
       assoc true y z = refl
       assoc false y z = refl
 
 -- nothing is left of 0
-pub none-left : (q : ℕ → Bool) → some 32 (λ i. bit 0 i && q i) ≡ false
-unfolding some
+pub none-left : (q : ℕ → Bool) → any 32 (λ i. bit 0 i && q i) ≡ false
+unfolding any
 none-left q = ap not (T-true (all 32 (λ i. not (bit 0 i && q i)))
     (T-all 32 (λ i. not (bit 0 i && q i)) .1 (λ i l. subst (λ (x : Bool). T (not (x && q i))) (sym (bit-zero i)) tt)))
 
@@ -103,17 +103,17 @@ none-counted rest i e = rw (e, bit-zero i)
 
 -- nothing is left: the word is what was joined
 pub joined-whole : (all rest word : ℕ) (masks : ℕ → ℕ) → all < 2 ^ 32 → rest ≡ 0
-    → ((b : ℕ) → (bit all b || some 32 (λ a. bit rest a && bit (masks a) b))
-    ≡ (bit 0 b || some 32 (λ a. bit word a && bit (masks a) b)))
+    → ((b : ℕ) → (bit all b || any 32 (λ a. bit rest a && bit (masks a) b))
+    ≡ (bit 0 b || any 32 (λ a. bit word a && bit (masks a) b)))
     → all ≡ outranking 32 masks word
 unfolding outranking
 joined-whole all rest word masks fits e h =
     word-ext 32 all _ fits (wordOf-lt 32 _) (λ b l.
     sym (or-false (bit all b))
     ∙ sym (ap (λ (t : Bool). bit all b || t)
-    (ap (λ (w : ℕ). some 32 (λ a. bit w a && bit (masks a) b)) e ∙ none-left (λ a. bit (masks a) b)))
+    (ap (λ (w : ℕ). any 32 (λ a. bit w a && bit (masks a) b)) e ∙ none-left (λ a. bit (masks a) b)))
     ∙ h b
-    ∙ ap (λ (t : Bool). t || some 32 (λ a. bit word a && bit (masks a) b)) (bit-zero b)
+    ∙ ap (λ (t : Bool). t || any 32 (λ a. bit word a && bit (masks a) b)) (bit-zero b)
     ∙ sym (bit-wordOf 32 _ b l))
 
 pub at-most-one : (t : Bool) → cond t 1 0 ≤ 1

@@ -1,4 +1,4 @@
--- Rules 21 to 27 by name, and what their code answers at an activity.
+-- The rules of activities by name, what their code needs, and the rules of a check in the order in which they are tried.
 -- Assumes nothing.
 use Prim.Native.Nat.{ℕ, _+_, _≤_, _<_}
 use mathlib.Core.Bool.{Bool, true, false, _&&_, not}

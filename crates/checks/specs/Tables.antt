@@ -32,8 +32,8 @@ pub record Tallied (word : ℕ) (counts counts′ : List ℕ) : Type 0 where
   pub one-more : (a : ℕ) → a < 32 → getD counts′ a 0 ≡ getD counts a 0 + cond (bit word a) 1 0
 
 -- p holds of some i < n
-unfoldable pub some : ℕ → (ℕ → Bool) → Bool
-some n p = not (all n (λ i. not (p i)))
+unfoldable pub any : ℕ → (ℕ → Bool) → Bool
+any n p = not (all n (λ i. not (p i)))
 
 -- the tick from which a can wait: its efe, and its predecessors' ends
 unfoldable pub waitsFrom : Model → Plan → ℕ → ℕ
@@ -62,7 +62,7 @@ rankMask m level a = wordOf (m .activities) (outranksIn m level a)
 
 -- the activities that stand in the mask of some activity of the word
 unfoldable pub outranking : ℕ → (ℕ → ℕ) → ℕ → ℕ
-outranking n mask word = wordOf 32 (λ b. some n (λ a. bit word a && bit (mask a) b))
+outranking n mask word = wordOf 32 (λ b. any n (λ a. bit word a && bit (mask a) b))
 
 -- the same from a table of masks
 unfoldable pub outrankingOf : List ℕ → ℕ → ℕ

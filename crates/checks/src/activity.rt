@@ -6,15 +6,16 @@ use crate::tables::thread_of;
 use records::Pass;
 use schedule::Activity;
 use schedule::RuleRefusal;
+use ticks::on_time;
+use ticks::passed;
 ghost use mathlib.Core.Path.{_≡_};
-ghost use mathlib.Core.Bool.{_&&_, not, cond};
-ghost use Prim.Native.Nat.{ℕ, _+_, _≤_, _<_};
-ghost use lib.Dec.{eqb, leb, ltb};
-ghost use lib.ListN.{getD};
-ghost use Rattle.schedule.specs.Bounded.{all, bit, wordOf, _⇒_};
+ghost use mathlib.Core.Bool.{not, cond};
+ghost use Prim.Native.Nat.{_+_, _≤_, _<_};
+ghost use lib.Dec.{eqb, leb};
+ghost use Rattle.schedule.specs.Bounded.{bit, _⇒_};
 ghost use Rattle.schedule.specs.Rule.{break};
-ghost use Rattle.schedule.specs.Model.{model, within, temporally, byData};
-ghost use Rattle.schedule.specs.Plan.{plan, active};
+ghost use Rattle.schedule.specs.Model.{model, within};
+ghost use Rattle.schedule.specs.Plan.{plan};
 ghost use Rattle.schedule.specs.Checks.{window};
 ghost use Rattle.laws.proofs.RowLaws.{brokenMask};
 ghost use Rattle.records.specs.Reads.{passNumbers};
@@ -79,11 +80,7 @@ fn deadline_holds(s: &[u8], r: &[u8], a: u8) -> bool
     ensures { λ x. ⌜ x ≡ (not (eqb (plan (now (r .entry)) .period (model (now (s .entry)) .thread a)) 0) ⇒ leb (plan (now (r .entry)) .end a) (plan (now (r .entry)) .period (model (now (s .entry)) .thread a))) ⌝ }
 {
     let row = records::plan::thread_row(r, thread_of(s, Activity(a)));
-    let period = row.period as u32;
-    if period == 0 {
-        return true;
-    }
-    end_of(r, Activity(a)) <= period
+    on_time(row.period as u32, end_of(r, Activity(a)))
 }
 
 // Whether a start comes before a predecessor's end and delay.
@@ -91,10 +88,7 @@ fn too_early(precedes: bool, start: u32, end: u32, delay: u32) -> bool
     ensures { λ r. ⌜ r ≡ not (precedes ⇒ leb (end + delay) start) ⌝ }
 {
     if precedes {
-        if start < end {
-            return true;
-        }
-        start - end < delay
+        !passed(end, delay, start)
     } else {
         false
     }
@@ -122,7 +116,7 @@ fn flag(holds: bool) -> u32
     if holds { 0 } else { 1 }
 }
 
-// 24 and 27 at activity a: its start and count come to no more, or no less, than a limit.
+// 24 at an activity: "end − start ≥ count".
 fn span_holds(start: u32, count: u32, limit: u32) -> bool
     requires { ⌜ start < 65536 ⌝ }
     requires { ⌜ count < 65536 ⌝ }
@@ -131,6 +125,7 @@ fn span_holds(start: u32, count: u32, limit: u32) -> bool
     start + count <= limit
 }
 
+// 27 at an activity, "start ≥ efe", with the count on both sides: the table has efe + count.
 fn eligible_holds(start: u32, count: u32, finish: u32) -> bool
     requires { ⌜ start < 65536 ⌝ }
     requires { ⌜ count < 65536 ⌝ }

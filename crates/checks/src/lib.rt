@@ -141,7 +141,7 @@ fn activity_rules(
     )
 }
 
-// Rules 28 and 29 or, strictly, 30 and 31: a rule of every tick, and then one that compares by rank.
+// Rules 28 and 29 or, strictly, 30 and 31: first the rule of how many are active, then the one that compares by rank.
 fn two_rules(
     s: &[u8],
     r: &[u8],

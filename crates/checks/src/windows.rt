@@ -2,11 +2,10 @@
 // only, so it is kept from one change to the next.
 use crate::tables::Column;
 use crate::tables::tabulate;
-use numbers::sooner;
+use ticks::sooner;
 ghost use mathlib.Core.Path.{_≡_};
 ghost use mathlib.Core.Bool.{_&&_, not};
 ghost use Prim.Native.Nat.{ℕ, _≤_, _<_};
-ghost use lib.Bits.{bitAnd, bitOr};
 ghost use lib.Dec.{leb, ltb};
 ghost use lib.ListN.{getD};
 ghost use Rattle.schedule.specs.Bounded.{all, bit, _⇒_};

@@ -1,18 +1,14 @@
 -- Demand 3 is about something: for model S and its choice a plan passes the strict check, and for S with H 5 none does.
 -- Assumes nothing.
-use Prim.Native.Nat.{ℕ, _≤_, _<_}
+use Prim.Native.Nat.{ℕ}
 use native.Mathlib.Omega.{arith}
 use mathlib.Core.List.{List}
-use mathlib.Core.Option.{none}
-use mathlib.Core.Path.{_≡_, refl}
-use lib.Dec.{T, ltb, ltb→lt}
-use lib.ListN.{length, getD, replicate, length-replicate}
+use mathlib.Core.Path.{refl}
+use lib.Dec.{ltb, ltb→lt}
+use lib.ListN.{length, getD, replicate}
 use Rattle.schedule.specs.Bounded.{all}
 use Rattle.schedule.specs.Fields.{Bytes}
-use Rattle.schedule.specs.Rule.{Refusal, AllHold, firstBreak}
-use Rattle.schedule.specs.Model.{model, modelForm}
-use Rattle.schedule.specs.Choice.{choiceForm}
-use Rattle.schedule.specs.Answers.{accepted, refused, Written, lengthNeeded, runAnswer}
+use Rattle.schedule.specs.Model.{model}
 use Rattle.schedule.specs.Cases.{every}
 use Rattle.schedule.specs.Starred.{modelS, choiceS, horizon}
 use Rattle.laws.proofs.Tests.{T-all}

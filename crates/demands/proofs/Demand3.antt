@@ -2,46 +2,26 @@
 -- run succeeds exactly when some well-formed plan with those choices passes the strict check; the plan it wrote is then
 -- the only one, and passes both checks; when it refuses, none passes.
 -- Assumes nothing.
-use Prim.Native.Nat.{ℕ, _+_, _*_, _^_, _≤_, _<_}
+use Prim.Native.Nat.{ℕ, _≤_, _<_}
 use native.Mathlib.Nat.{lt-of-lt-of-le}
 use native.Mathlib.Omega.{arith}
-use mathlib.Core.List.{List, _++_}
-use mathlib.Core.Logic.{_↔_}
-use mathlib.Core.Path.{_≡_, refl, sym, subst, ap, ap₂, _∙_}
-use lib.Dec.{T}
+use mathlib.Core.List.{List}
+use mathlib.Core.Path.{_≡_, refl, sym, subst, ap, _∙_}
 use lib.ListN.{length, take, drop}
 use lib.Pow.{pow-mono}
 use lib.Seq.{take-at}
 use Rattle.schedule.specs.Fields.{Bytes}
-use Rattle.schedule.specs.Rule.{Refusal, AllHold}
-use Rattle.schedule.specs.Model.{Model, model, modelForm, Within}
-use Rattle.schedule.specs.Choice.{Choice, choice, choiceForm}
-use Rattle.schedule.specs.Plan.{Plan, plan, planForm, planBytes}
+use Rattle.schedule.specs.Rule.{AllHold}
+use Rattle.schedule.specs.Model.{model, modelForm}
+use Rattle.schedule.specs.Choice.{choice, choiceForm}
+use Rattle.schedule.specs.Plan.{plan, planForm, planBytes}
 use Rattle.schedule.specs.Machine.{machineWord, machineStart, machineEnd, machineOwes}
 use Rattle.schedule.specs.Checks.{deadlineRule}
 use Rattle.schedule.specs.Keeps.{KeepsStrict}
-use Rattle.schedule.specs.Answers.{
-  accepted,
-  refused,
-  Figures,
-  figures,
-  strictChecks,
-  strictVerdict,
-  machinePlan,
-  owedRule,
-  runRules,
-  Written,
-  lengthNeeded,
-  runChecks,
-  runAnswer,
-  runBuffer,
-  MeetsForm,
-  PassesTests,
-  HasChoices,
-}
+use Rattle.schedule.specs.Answers.{accepted, Figures, figures, strictChecks, machinePlan, owedRule, runRules, Written, lengthNeeded, runChecks, runAnswer, MeetsForm, PassesTests, HasChoices}
 use Rattle.laws.proofs.FieldLaws.{field-lt}
 use Rattle.laws.proofs.PlanBytes.{Fits, ReadsBack, reads-back, length-planBytes, bytes-planBytes}
-use Rattle.laws.proofs.PlanForm.{form-says, written-form, SameParts, parts-determine}
+use Rattle.laws.proofs.PlanForm.{form-says, written-form, parts-determine}
 use Rattle.laws.proofs.FirstBreak.{hold-append, _&_}
 use Rattle.laws.proofs.VerdictLaws.{accepted-is-not-refused}
 use Rattle.laws.proofs.Words.{bit-high}
@@ -63,12 +43,6 @@ use Rattle.demands.proofs.Demand2.{
 
 module _ (s q : List ℕ) (q-bytes : Bytes q) (formed : AllHold (modelForm s))
     (tested : AllHold (choiceForm (model s) q)) where
-  m : Model
-  m = model s
-
-  c : Choice
-  c = choice q
-
   model-facts : Formed (model s)
   model-facts = model-says s formed
 

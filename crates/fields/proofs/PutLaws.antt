@@ -1,20 +1,20 @@
 -- Laws of `put`: what stands where afterwards, the length, neighbouring parts as one, a part of the list, and the bytes of
 -- a number written from the last back.
 -- Assumes nothing.
-use Prim.Native.Nat.{ℕ, zero, suc, _+_, _-_, _/_, _%_, _^_, _≤_, _<_}
+use Prim.Native.Nat.{ℕ, zero, suc, _+_, _-_, _/_, _%_, _≤_, _<_}
 use native.Mathlib.Decide.{decLt}
 use native.Mathlib.Nat.{add-zero, zero-add, add-assoc}
 use native.Mathlib.Numerals.{add-one}
 use native.Mathlib.Omega.{arith}
-use mathlib.Core.List.{List, [], _∷_, _++_, append-assoc, append-nil}
+use mathlib.Core.List.{List, [], _∷_, _++_, append-assoc}
 use mathlib.Core.Logic.{_⊎_, inl, inr, _≢_}
 use mathlib.Core.Path.{_≡_, refl, sym, ap, subst, _∙_}
 use lib.ListN.{length, take, drop, getD, set, length-append, length-set, length-drop, take-append-drop}
-use lib.ListN.{drop-of-length-le, List·getD-append}
+use lib.ListN.{List·getD-append}
 use lib.Seq.{ext-getD, getD-set-other, getD-set-same, length-sets, sets, sets-eq, take-add, drop-drop}
 use borrow.Author.Tests.{le-leb, lt-leb}
-use Rattle.schedule.specs.Fields.{field, bytes}
-use Rattle.laws.proofs.FieldLaws.{field-bytes, getD-behind, length-bytes}
+use Rattle.schedule.specs.Fields.{bytes}
+use Rattle.laws.proofs.FieldLaws.{getD-behind, length-bytes}
 use Rattle.fields.specs.Put.{put}
 
 -- ---- what stands where
@@ -162,11 +162,6 @@ put-nil at l =
 pub put-front : (b l : List ℕ) → length b ≤ length l → put 0 b l ≡ b ++ drop (length b) l
 put-front b l h = put-fits 0 b l (omega arith) ∙ ap (λ (n : ℕ). b ++ drop n l) (zero-add (length b))
 
--- over the whole
-pub put-whole : (b l : List ℕ) → length b ≡ length l → put 0 b l ≡ b
-put-whole b l h =
-    put-front b l (omega arith) ∙ ap (λ (t : List ℕ). b ++ t) (drop-of-length-le l {i = length b} (omega arith)) ∙ append-nil b
-
 -- into the part of a list behind its first k
 pub put-part : (k at : ℕ) (b l : List ℕ) → k ≤ length l → take k l ++ put at b (drop k l) ≡ put (k + at) b l
 put-part k at b l h =
@@ -187,12 +182,6 @@ put-part k at b l h =
     ]
 
 -- ---- the bytes of a number
-
--- what is written is read back
-pub field-put : (at k v : ℕ) (l : List ℕ) → at + k ≤ length l → v < 256 ^ k → field (put at (bytes k v) l) at k ≡ v
-field-put at k v l h m =
-    field-bytes (put at (bytes k v) l) at k v
-    (λ i b. put-at at (bytes k v) l (omega (arith, length-bytes k v)) i (omega (arith, length-bytes k v))) m
 
 -- the last byte, then those before it
 put-last : (at k v : ℕ) (l : List ℕ) → at + k < length l

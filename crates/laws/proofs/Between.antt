@@ -1,12 +1,14 @@
--- Ticks between two on one side of a bound, and the sooner of two ticks that come after one.
+-- Ticks between two on one side of a bound, the sooner of two ticks that come after one, and a delay that has passed.
 -- Assumes nothing.
-use Prim.Native.Nat.{ℕ, _≤_, _<_}
+use Prim.Native.Nat.{ℕ, _+_, _-_, _≤_, _<_}
 use native.Mathlib.Decide.{decLt}
 use native.Mathlib.Omega.{arith}
 use mathlib.Core.Bool.{Bool, _&&_, cond}
 use mathlib.Core.Path.{_≡_, sym, ap, ap₂, _∙_}
 use lib.Dec.{leb, ltb}
 use borrow.Author.Tests.{le-leb, lt-leb, lt-ltb, le-ltb}
+use Rattle.laws.proofs.Tests.{T-leb}
+use Rattle.laws.proofs.Counting.{T-ext}
 
 -- a bound that is not passed from t to v
 pub between-leb : (x t v : ℕ) → t ≤ v → (t < x → v < x) → leb x v ≡ leb x t
@@ -46,3 +48,9 @@ sooner-le next other t r e = (first, second)
 
     second : t < other → r ≤ other
     second l = elim (decLt other next) [ yes k ↦ omega (arith, both l k) | no k ↦ omega (arith, later l (omega arith)) ]
+
+-- an end that has come leaves t less it for the delay
+pub passed-from : (end delay t : ℕ) → end ≤ t → leb delay (t - end) ≡ leb (end + delay) t
+passed-from end delay t h =
+    T-ext _ _ (λ x. T-leb (end + delay) t .1 (omega (arith, T-leb delay (t - end) .0 x)))
+    (λ x. T-leb delay (t - end) .1 (omega (arith, T-leb (end + delay) t .0 x)))

@@ -5,15 +5,15 @@ use Prim.Native.Nat.{ℕ, zero, suc, _+_, _-_, _≤_, _<_}
 use native.Mathlib.Decide.{decLt}
 use native.Mathlib.Omega.{arith}
 use mathlib.Core.Bool.{Bool}
-use mathlib.Core.Logic.{_⊎_, inl, inr, ⊎-elim}
-use mathlib.Core.Path.{_≡_, refl, sym, subst, ap, _∙_}
+use mathlib.Core.Logic.{inl, inr}
+use mathlib.Core.Path.{_≡_, sym, subst, ap, _∙_}
 use lib.Dec.{T}
 use Rattle.schedule.specs.Bounded.{count, bit, ones, lowest}
 use Rattle.schedule.specs.Model.{Model, priorityOf, temporally, byData, Within}
 use Rattle.schedule.specs.Plan.{Plan, active}
-use Rattle.schedule.specs.Machine.{State, owes, endOf, ready, selected, stateAt, machineWord, machineStart, machineEnd, machineOwes}
+use Rattle.schedule.specs.Machine.{owes, endOf, ready, selected, machineWord, machineStart, machineEnd, machineOwes}
 use Rattle.schedule.specs.Checks.{countOf, efe, Waiting, Window}
-use Rattle.schedule.specs.Keeps.{KeepsPlain, KeepsStrict}
+use Rattle.schedule.specs.Keeps.{KeepsStrict}
 use Rattle.laws.proofs.Counting.{count-ext, count-none, count-stops, count-span}
 use Rattle.laws.proofs.Words.{bit-high, ones-count}
 use Rattle.laws.proofs.Selection.{Before, selected-few, selected-all, selected-first}
@@ -46,9 +46,6 @@ module _ (m : Model) (release duration : ℕ → ℕ) (p : Plan) (made : Made m 
     (ordered : Ordered m) (few : m .activities ≤ 32)
     (lasting : (a : ℕ) → a < m .activities → 0 < duration a)
     (settled : (a : ℕ) → a < m .activities → machineOwes m release duration a ≡ 0) where
-  H : ℕ
-  H = m .horizon
-
   same-bit : (t a : ℕ) → t < m .horizon → active p t a ≡ runs m release duration t a
   same-bit t a l = ap (λ (w : ℕ). bit w a) (made .words t l)
 

@@ -10,7 +10,7 @@ use mathlib.Core.Option.{Option, some, none, Option·some-ne-none, Option·none-
 use mathlib.Core.Path.{_≡_, refl, sym, _∙_, ap, subst}
 use lib.Dec.{T}
 use Rattle.schedule.specs.Bounded.{first}
-use Rattle.schedule.specs.Rule.{Rule, Refusal, break, firstBreak, Everywhere, AllHold, Earlier, BrokenAt, FirstBroken}
+use Rattle.schedule.specs.Rule.{Rule, Refusal, break, firstBreak, Everywhere, AllHold, BrokenAt, FirstBroken}
 use Rattle.laws.proofs.Tests.{below-suc, up-to}
 
 infixr 4 _&_

@@ -4,8 +4,7 @@ use Prim.Native.Nat.{ℕ, _+_, _*_, _≤_, _<_}
 use native.Mathlib.Decide.{decLt}
 use native.Mathlib.Omega.{arith}
 use mathlib.Core.List.{List}
-use mathlib.Core.Path.{_≡_}
-use Rattle.schedule.specs.Fields.{field, Bytes}
+use Rattle.schedule.specs.Fields.{Bytes}
 use Rattle.schedule.specs.Rule.{AllHold}
 use Rattle.schedule.specs.Model.{Model, model, modelForm, limitsRule, activityRule, maskRule, Within}
 use Rattle.schedule.specs.Choice.{Choice, choice, choiceForm, rangeRule, durationRule}

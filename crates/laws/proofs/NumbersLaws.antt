@@ -1,6 +1,6 @@
 -- Equal numbers and values mean equal answers: each map of crate schedule's Numbers is undone by a map back.
 -- Assumes nothing.
-use Prim.Native.Nat.{ℕ, _-_}
+use Prim.Native.Nat.{_-_}
 use mathlib.Core.Bool.{cond}
 use mathlib.Core.List.{List, [], _∷_}
 use mathlib.Core.Path.{_≡_, refl, sym, ap, _∙_}
@@ -25,7 +25,7 @@ use Rattle.schedule.specs.Rule
 use Rattle.schedule.specs.Answers
 use Rattle.schedule.specs.Answers.{Answer, accepted, refused}
 use Rattle.schedule.specs.Streams.{WordOrPast, word, past}
-use Rattle.schedule.specs.Numbers.{formNumber, ruleNumber, runNumber, refusalNumbers, verdictNumbers}
+use Rattle.schedule.specs.Numbers.{refusalNumbers, verdictNumbers}
 use Rattle.schedule.specs.Numbers.{runNumbers, wordNumbers}
 
 -- a map that another undoes takes no two things to one

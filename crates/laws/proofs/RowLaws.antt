@@ -1,20 +1,19 @@
 -- A rule tried row by row: what a loop over its rows knows, and the row's answer read off a mask of its columns.
 -- Assumes nothing.
-use Prim.Native.Nat.{ℕ, zero, suc, _+_, _≤_, _<_}
+use Prim.Native.Nat.{ℕ, _+_, _≤_, _<_}
 use native.Mathlib.Decide.{decLt}
-use native.Mathlib.Numerals.{add-one}
 use native.Mathlib.Omega.{arith}
 use mathlib.Core.Bool.{Bool, not, cond}
-use mathlib.Core.Logic.{_⊎_, inl, inr, ⊎-elim}
+use mathlib.Core.Logic.{_⊎_, ⊎-elim}
 use mathlib.Core.Option.{Option, some, none}
-use mathlib.Core.Path.{_≡_, refl, sym, subst, ap, _∙_}
+use mathlib.Core.Path.{_≡_, sym, subst, ap}
 use lib.Dec.{T}
 use Rattle.schedule.specs.Bounded.{first, lowest, bit, wordOf}
 use Rattle.schedule.specs.Rule.{Rule, Refusal, break}
 use Rattle.laws.proofs.Tests.{T-not, up-to}
 use Rattle.laws.proofs.Counting.{decT, T-true, T-false}
 use Rattle.laws.proofs.Words.{bit-wordOf, bit-high, wordOf-lt}
-use Rattle.laws.proofs.Lowest.{Lowest, lowest-is}
+use Rattle.laws.proofs.Lowest.{lowest-is}
 use Rattle.laws.proofs.FirstBreak.{first-none, first-some}
 
 -- the refusal of a rule at a place

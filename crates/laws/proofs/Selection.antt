@@ -1,11 +1,11 @@
 -- "Rank the ready by priority, highest first, then by lower activity number. The first c": the choice of a tick is the
 -- only one that keeps rules 28 to 31 there, and it keeps them.
 -- Assumes nothing.
-use Prim.Native.Nat.{ℕ, zero, suc, _+_, _≤_, _<_}
+use Prim.Native.Nat.{ℕ, zero, suc, _≤_, _<_}
 use native.Mathlib.Decide.{decLt, ℕ-discrete}
 use native.Mathlib.Nat.{le-of-eq, not-suc-le-zero}
 use native.Mathlib.Omega.{arith}
-use mathlib.Core.Bool.{Bool, true, false, _&&_}
+use mathlib.Core.Bool.{Bool, _&&_}
 use mathlib.Core.Logic.{_⊎_, inl, inr, ⊎-elim}
 use mathlib.Core.Path.{_≡_, sym, subst, _∙_}
 use lib.Dec.{T, eqb, ltb, ltb→lt, lt→ltb}

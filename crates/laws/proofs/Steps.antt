@@ -3,16 +3,15 @@
 use Prim.Native.Nat.{ℕ, zero, suc, _+_, _≤_, _<_, max, min}
 use native.Mathlib.Numerals.{add-one}
 use native.Mathlib.Omega.{arith}
-use mathlib.Core.Bool.{Bool, true, false, _&&_, cond}
+use mathlib.Core.Bool.{Bool, true, cond}
 use mathlib.Core.List.{List}
 use mathlib.Core.Logic.{⊎-elim}
-use mathlib.Core.Path.{_≡_, refl, sym, subst, ap₂, _∙_}
-use lib.Dec.{T}
+use mathlib.Core.Path.{_≡_, refl, sym, subst, _∙_}
 use lib.ListN.{length, getD, set, replicate}
 use lib.Seq.{getD-set-same, getD-set-other}
 use Rattle.schedule.specs.Bounded.{all, bit, count, greatest, least, ones, total}
-use Rattle.laws.proofs.Tests.{below-suc, T-all}
-use Rattle.laws.proofs.Counting.{T-false, count-suc, count-le}
+use Rattle.laws.proofs.Tests.{below-suc}
+use Rattle.laws.proofs.Counting.{count-suc, count-le}
 
 -- ---- counts and sums
 
@@ -63,13 +62,6 @@ least-next (suc n) f h = rw (add-one (suc n))
 pub all-start : (p : ℕ → Bool) → all 0 p ≡ true
 unfolding all
 all-start p = refl
-
-pub all-next : (n : ℕ) (p : ℕ → Bool) → all n p ≡ true → p n ≡ true → all (n + 1) p ≡ true
-unfolding all
-all-next n p h e = rw (add-one n) (ap₂ _&&_ h e)
-
-pub all-fails : (n k : ℕ) (p : ℕ → Bool) → k < n → p k ≡ false → all n p ≡ false
-all-fails n k p l e = T-false (all n p) (λ t. subst T e (T-all n p .0 t k l))
 
 -- ---- a table filled from the front
 

@@ -8,7 +8,7 @@ use mathlib.Core.Path.{_≡_, refl, ap, ap₂}
 use Rattle.schedule.specs.Bounded.{total, greatest, least, ones}
 use Rattle.schedule.specs.Model.{Model}
 use Rattle.schedule.specs.Plan.{Plan}
-use Rattle.schedule.specs.Answers.{Figures, figures}
+use Rattle.schedule.specs.Answers.{figures}
 use Rattle.laws.proofs.Tests.{below-suc}
 
 pub greatest-ext : (n : ℕ) (f g : ℕ → ℕ) → ((i : ℕ) → i < n → f i ≡ g i) → greatest n f ≡ greatest n g

@@ -7,15 +7,15 @@ use native.Mathlib.Nat.{lt-of-lt-of-le}
 use native.Mathlib.Omega.{arith}
 use mathlib.Core.Bool.{Bool}
 use mathlib.Core.Logic.{_⊎_, inl, inr, ⊎-elim}
-use mathlib.Core.Path.{_≡_, refl, sym, subst, ap, _∙_}
+use mathlib.Core.Path.{_≡_, sym, subst, ap, _∙_}
 use lib.Dec.{T}
 use lib.Pow.{pow-mono}
 use Rattle.schedule.specs.Bounded.{count, bit, ones}
-use Rattle.schedule.specs.Model.{Model, priorityOf, temporally, byData}
+use Rattle.schedule.specs.Model.{Model, temporally, byData}
 use Rattle.schedule.specs.Plan.{Plan, active}
-use Rattle.schedule.specs.Machine.{State, owes, endOf, ready, selected, stateAt, machineWord, machineStart, machineEnd, machineOwes}
-use Rattle.schedule.specs.Checks.{countOf, efe, Waiting, Window}
-use Rattle.schedule.specs.Keeps.{KeepsPlain, KeepsStrict}
+use Rattle.schedule.specs.Machine.{State, owes, endOf, ready, machineWord, machineStart, machineEnd, machineOwes}
+use Rattle.schedule.specs.Checks.{countOf, efe, Waiting}
+use Rattle.schedule.specs.Keeps.{KeepsStrict}
 use Rattle.laws.proofs.Counting.{decT, T-false, weight, one-if, zero-if, count-suc, count-zero, count-some, count-grows, count-stops, count-between}
 use Rattle.laws.proofs.Words.{bit-high, word-ext, ones-count}
 use Rattle.laws.proofs.Selection.{Before, Picked, picked-selected}
@@ -34,9 +34,6 @@ pub record Beside (m : Model) (release duration : ℕ → ℕ) (p : Plan) : Type
   pub lasts : (a : ℕ) → a < m .activities → countOf m p a ≡ duration a
 
 module _ (m : Model) (release duration : ℕ → ℕ) (p : Plan) (w : Beside m release duration p) (k : KeepsStrict m p) where
-  n : ℕ
-  n = m .activities
-
   -- how often a has been active before tick t
   done : ℕ → ℕ → ℕ
   done t a = count t (λ u. active p u a)

@@ -5,11 +5,10 @@ use native.Mathlib.Nat.{pow-suc, add-comm, zero-mul, one-mul, mod-lt, mod-eq-of-
 use native.Mathlib.Numerals.{one-add}
 use native.Mathlib.Omega.{arith}
 use mathlib.Core.Bool.{Bool, true, false, cond}
-use mathlib.Core.Logic.{_⊎_, inl, inr, ⊎-elim}
+use mathlib.Core.Logic.{_⊎_, ⊎-elim}
 use mathlib.Core.Path.{_≡_, refl, sym, subst, ap, ap₂, _∙_}
 use lib.Dec.{T, eqb, eqb→eq}
-use lib.Pow.{pow-pos, pow-mono, high, low, mod-pow-add, field, mod-mod-pow}
-use borrow.Author.Tests.{eq-eqb, ne-eqb}
+use lib.Pow.{pow-mono, high, low, mod-pow-add, field, mod-mod-pow}
 use Rattle.schedule.specs.Bounded.{count, bit, wordOf, ones}
 use Rattle.laws.proofs.Tests.{below-suc}
 use Rattle.laws.proofs.Counting.{count-stops, weight}

@@ -1,11 +1,9 @@
-// The paper's numbers of the refusals, and arithmetic that the figures need.
+// The paper's numbers of the refusals, and a little arithmetic of figures and ticks.
 use schedule::FormRefusal;
 use schedule::RuleRefusal;
 use schedule::RunRefusal;
 ghost use mathlib.Core.Path.{_≡_};
 ghost use Prim.Native.Nat.{_+_, _-_, max, min};
-ghost use mathlib.Core.Bool.{_&&_, cond};
-ghost use lib.Dec.{ltb};
 ghost use Rattle.schedule.specs.Numbers.{formNumber, ruleNumber, runNumber};
 
 // "A refusal answers its number, A and B".
@@ -85,16 +83,4 @@ pub fn sum(x: u32, y: u32) -> u32
 {
     let room = 0xffff_ffff - x;
     if y <= room { x + y } else { 0xffff_ffff }
-}
-
-// The sooner of two ticks, where the second comes after tick t.
-pub fn sooner(next: u32, other: u32, t: u32) -> u32
-    ensures { λ r. ⌜ r ≡ cond (ltb t other && ltb other next) other next ⌝ }
-{
-    if t < other {
-        if other < next {
-            return other;
-        }
-    }
-    next
 }

@@ -18,7 +18,7 @@ use borrow.Author.Tests.{lt-ltb}
 use Rattle.schedule.specs.Bounded.{all, bit, lowest, wordOf, ones, _⇒_}
 use Rattle.schedule.specs.Model.{Model}
 use Rattle.schedule.specs.Machine.{State, owes, endedBy, ready, before, rank, selected, wordAt, initial, stateAt, machineWord}
-use Rattle.laws.proofs.Tests.{T-and, T-not, T-all, T-implies, T-leb, T-eqb}
+use Rattle.laws.proofs.Tests.{T-and, T-not, T-all, T-implies, T-eqb}
 use Rattle.laws.proofs.Steps.{table-next}
 use Rattle.laws.proofs.Counting.{decT, T-ext, T-true, T-false, count-ext}
 use Rattle.laws.proofs.MachineLaws.{owes-next, end-next, getD-table}
@@ -186,12 +186,6 @@ keeps-next m release duration t word owed ends owed′ ends′ e keeps next =
     })
 
 -- ---- the tests
-
--- an end that has come leaves t less it for the delay
-pub passed-from : (end delay t : ℕ) → end ≤ t → leb delay (t - end) ≡ leb (end + delay) t
-passed-from end delay t h =
-    T-ext _ _ (λ x. T-leb (end + delay) t .1 (omega (arith, T-leb delay (t - end) .0 x)))
-    (λ x. T-leb delay (t - end) .1 (omega (arith, T-leb (end + delay) t .0 x)))
 
 -- what is not nothing is something
 pub pos-ltb : (x : ℕ) → (x ≡ 0 → ⊥) → ltb 0 x ≡ true

@@ -15,7 +15,7 @@ pub record Quiet (n : ℕ) (releases delays ends : List ℕ) (t u : ℕ) : Type 
   pub ended : (a : ℕ) → a < n → t < getD ends a 0 → u ≤ getD ends a 0
   pub delayed : (a : ℕ) → a < n → t < getD ends a 0 + getD delays a 0 → u ≤ getD ends a 0 + getD delays a 0
 
--- the activities of a word, active from tick t on, all owe something up to tick u
+-- the activities of a word, active from tick t on, all owe something at every tick before u
 abbrev pub Busy : ℕ → List ℕ → ℕ → ℕ → Type 0
 Busy word owed t u = (a : ℕ) → a < 32 → T (bit word a) → u ≤ t + getD owed a 0
 

@@ -11,6 +11,7 @@ use schedule::Place;
 use schedule::Refusal;
 use schedule::RunRefusal;
 use schedule::Thread;
+use ticks::on_time;
 ghost use mathlib.Core.Path.{_≡_};
 ghost use mathlib.Core.Bool.{not};
 ghost use Prim.Native.Nat.{_≤_, _<_};
@@ -44,16 +45,6 @@ fn first_owing(n: usize, owed: &[u32; 32]) -> usize
     a
 }
 
-// "23 a thread with a period has end ≤ that period."
-fn on_time(periods: &[u32; 32], ends: &[u32; 32], a: usize) -> bool
-    requires { ⌜ a < 32 ⌝ }
-    ensures { λ r. ⌜ r ≡ onTime (now (periods .entry)) (now (ends .entry)) a ⌝ }
-{
-    let period = periods[a];
-    let end = ends[a];
-    if period == 0 { true } else { end <= period }
-}
-
 // "43 all ended, an end breaks rule 23; A the lowest": that activity of the first n, n where every end keeps it.
 fn first_late(n: usize, periods: &[u32; 32], ends: &[u32; 32]) -> usize
     requires { ⌜ n ≤ 32 ⌝ }
@@ -61,7 +52,7 @@ fn first_late(n: usize, periods: &[u32; 32], ends: &[u32; 32]) -> usize
 {
     let mut a = 0;
     while a < n {
-        if !on_time(periods, ends, a) {
+        if !on_time(periods[a], ends[a]) {
             return a;
         }
         a += 1;

@@ -1,20 +1,14 @@
 // "The run, as a plain machine": a tick on whole words, from tables by activity.
+use ticks::passed;
 ghost use mathlib.Core.Path.{_≡_};
-ghost use mathlib.Core.Bool.{_&&_, cond};
+ghost use mathlib.Core.Bool.{cond};
 ghost use Prim.Native.Nat.{_+_, _-_, _≤_, _<_};
-ghost use lib.Dec.{eqb, leb};
+ghost use lib.Dec.{eqb};
 ghost use lib.ListN.{length};
 ghost use Rattle.schedule.specs.Bounded.{wordOf};
 ghost use Rattle.run.specs.Masks.{covered, endedFrom, endedMask, readyFrom, selectedFrom, tickWord, Stepped};
 
 // ---- what is ready
-
-// An end and a delay have passed by tick t.
-fn passed(end: u32, delay: u32, t: u32) -> bool
-    ensures { λ r. ⌜ r ≡ leb (end + delay) t ⌝ }
-{
-    if end <= t { delay <= t - end } else { false }
-}
 
 // Activity b owes nothing, and its end and delay have passed by tick t.
 fn ended_by(owed: &[u32; 32], ends: &[u32; 32], delays: &[u32; 32], t: u32, b: usize) -> bool

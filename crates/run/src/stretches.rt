@@ -2,8 +2,8 @@
 // an activity ends; so a word is kept from one such tick to the next.
 use crate::machine;
 use numbers::smaller;
-use numbers::sooner;
 use numbers::sum;
+use ticks::sooner;
 ghost use mathlib.Core.Path.{_≡_};
 ghost use Prim.Native.Nat.{_≤_, _<_};
 ghost use Rattle.run.specs.Masks.{tickWord};
@@ -39,7 +39,7 @@ fn next_change(n: usize, releases: &[u32; 32], delays: &[u32; 32], ends: &[u32; 
     next
 }
 
-// The tick up to which all activities of a word owe something, no later than another.
+// The tick before which all activities of a word still owe something, or `change` if that is sooner.
 fn next_end(word: u32, owed: &[u32; 32], t: u32, change: u32) -> u32
     ensures { λ r. ⌜ (r ≤ change) × Busy word (now (owed .entry)) t r ⌝ }
 {

@@ -2,7 +2,6 @@
 -- declared answer says, in the paper's numbers. crate laws, NumbersLaws, shows that no two answers say the same.
 -- Assumes nothing.
 use Prim.Native.Nat.{ℕ}
-use Rattle.schedule.specs.declared.Place.{Place}
 use Rattle.schedule.specs.declared.FormRefusal.{FormRefusal}
 use Rattle.schedule.specs.declared.RuleRefusal.{RuleRefusal}
 use Rattle.schedule.specs.declared.RunRefusal.{RunRefusal}

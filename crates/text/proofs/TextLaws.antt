@@ -9,7 +9,7 @@ use lib.ListN.{length, length-append}
 use Rattle.schedule.specs.Answers
 use Rattle.schedule.specs.Answers.{Answer, accepted, refused}
 use Rattle.schedule.specs.Bounded.{rows, total}
-use Rattle.schedule.specs.Plan.{Plan, plan}
+use Rattle.schedule.specs.Plan.{plan}
 use Rattle.schedule.specs.Lines.{decimal, three, shown, checkLines, tickLine, runLines}
 use Rattle.laws.proofs.Tests.{up-to}
 use Rattle.text.specs.declared.Said.{Said}
@@ -112,20 +112,3 @@ run-said (refused x) s = refl
 pub run-parts : (v : Answer Answers.Written) (s : List ℕ) {h : ℕ} {said : Said} → h ≡ ticksOf v s → said ≡ runSaid v
     → runLines v (plan s) ≡ rows h (tickText s) ++ line runName said
 run-parts v s e d = simp (e, d) (run-said v s)
-
--- ---- two plans with the same horizon and words print the same
-
-rows-alike : (n : ℕ) (f g : ℕ → List ℕ) → ((i : ℕ) → i < n → f i ≡ g i) → rows n f ≡ rows n g
-unfolding rows
-rows-alike zero f g e = refl
-rows-alike (suc n) f g e = simp (rows-alike n f g (λ i l. e i (omega arith)), e n (omega arith))
-
-pub run-lines-alike : (v : Answer Answers.Written) (p q : Plan) → p .horizon ≡ q .horizon
-    → ((t : ℕ) → t < q .horizon → p .word t ≡ q .word t) → runLines v p ≡ runLines v q
-unfolding runLines
-run-lines-alike (accepted w) p q e d =
-    simp (
-      e,
-      rows-alike (q .horizon) (λ t. tickLine t (p .word t)) (λ t. tickLine t (q .word t)) (λ t l. ap (tickLine t) (d t l)),
-    )
-run-lines-alike (refused x) p q e d = refl

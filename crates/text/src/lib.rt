@@ -7,7 +7,7 @@ use schedule::Refusal;
 use schedule::RunVerdict;
 use schedule::Verdict;
 ghost use mathlib.Core.Path.{_≡_};
-ghost use Prim.Native.Nat.{_+_, _*_, _%_, _^_, _≤_, _<_};
+ghost use Prim.Native.Nat.{_+_, _*_, _%_, _≤_, _<_};
 ghost use lib.ListN.{length};
 ghost use Rattle.schedule.specs.Bounded.{rows, total};
 ghost use Rattle.schedule.specs.Plan;

@@ -20,7 +20,7 @@ use Rattle.schedule.specs.Streams.{word, past, orPast, viewRefusal, viewWord}
 use Rattle.laws.proofs.FirstBreak.{none-iff, sound-append, hold-append}
 use Rattle.laws.proofs.Sound.{modelForm-sound, planForm-sound}
 use Rattle.laws.proofs.PlanForm.{WellFormed, form-says}
-use Rattle.view.specs.Grid.{wordsFrom, heldFrom, heldBytes, gridBytes, gridWord}
+use Rattle.view.specs.Grid.{wordsFrom, heldFrom, heldBytes, viewBytes, gridWord}
 
 -- ---- where the part stands
 
@@ -52,8 +52,8 @@ held-part o r =
     ∙ drop-held o r
 
 -- what is held by the making's answer is what its view holds
-pub held-grid : (s r g : List ℕ) (o : Option Refusal) → g ≡ heldBytes o r → o ≡ viewRefusal s r → g ≡ gridBytes s r
-unfolding gridBytes
+pub held-grid : (s r g : List ℕ) (o : Option Refusal) → g ≡ heldBytes o r → o ≡ viewRefusal s r → g ≡ viewBytes s r
+unfolding viewBytes
 held-grid s r g o e f = e ∙ ap (λ (x : Option Refusal). heldBytes x r) f
 
 -- ---- what it gives
@@ -91,6 +91,6 @@ module _ (s r : List ℕ) where
   gives t (some x) e = ap (λ (b : Bool). cond b (word (field [] (4 * t) 4)) past) (le-ltb t 0 (omega arith))
 
   -- the bytes that are held give the words of the view
-  pub grid-gives : (t : ℕ) → gridWord (gridBytes s r) t ≡ viewWord s r t
-  unfolding gridBytes viewWord
+  pub grid-gives : (t : ℕ) → gridWord (viewBytes s r) t ≡ viewWord s r t
+  unfolding viewBytes viewWord
   grid-gives t = gives t (viewRefusal s r) refl

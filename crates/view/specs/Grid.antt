@@ -26,8 +26,8 @@ heldFrom none r = min (wordsFrom r) (length r)
 heldFrom (some x) r = length r
 
 -- the bytes held by a view made over a model and a plan
-unfoldable pub gridBytes : List ℕ → List ℕ → List ℕ
-gridBytes s r = heldBytes (viewRefusal s r) r
+unfoldable pub viewBytes : List ℕ → List ℕ → List ℕ
+viewBytes s r = heldBytes (viewRefusal s r) r
 
 -- "it gives the word at a tick, or past for a tick ≥ H", of any bytes that are held
 unfoldable pub gridWord : List ℕ → ℕ → WordOrPast

@@ -8,7 +8,7 @@ ghost use mathlib.Core.Path.{_≡_};
 ghost use Rattle.schedule.specs.Streams.{viewRefusal, viewWord};
 ghost use Rattle.schedule.specs.Numbers.{wordNumbers};
 ghost use Rattle.records.specs.Reads.{passNumbers};
-ghost use Rattle.view.specs.Grid.{wordsFrom, heldFrom, heldBytes, gridBytes, gridWord};
+ghost use Rattle.view.specs.Grid.{wordsFrom, heldFrom, heldBytes, viewBytes, gridWord};
 
 // "a struct over the plan's grid slice", and what its making answered.
 pub struct View<'a> {
@@ -55,7 +55,7 @@ fn held_from(plan: &[u8], made: Pass) -> usize
 }
 
 // The part of a plan that is held.
-pub fn held(plan: &[u8], made: Pass) -> &[u8]
+fn held(plan: &[u8], made: Pass) -> &[u8]
     ensures { λ r. ⌜ now r ≡ heldBytes (passNumbers made) (now (plan .entry)) ⌝ }
 {
     let start = held_from(plan, made);
@@ -63,7 +63,7 @@ pub fn held(plan: &[u8], made: Pass) -> &[u8]
 }
 
 // The word at a tick, of any part that is held. The tick is compared first, so that its place does not overflow.
-pub fn word_in(grid: &[u8], t: usize) -> WordAt
+fn word_in(grid: &[u8], t: usize) -> WordAt
     ensures { λ r. ⌜ wordNumbers r ≡ gridWord (now (grid .entry)) t ⌝ }
 {
     if t < grid.len() / 4 {
@@ -77,7 +77,7 @@ pub fn word_in(grid: &[u8], t: usize) -> WordAt
 
 // The making: refused or not, it leaves a view.
 pub fn over<'a>(model: &[u8], plan: &'a [u8]) -> View<'a>
-    ensures { λ r. ⌜ (now (r .grid) ≡ gridBytes (now (model .entry)) (now (plan .entry)))
+    ensures { λ r. ⌜ (now (r .grid) ≡ viewBytes (now (model .entry)) (now (plan .entry)))
         × (passNumbers (r .made) ≡ viewRefusal (now (model .entry)) (now (plan .entry))) ⌝ }
 {
     let made = refusal(model, plan);

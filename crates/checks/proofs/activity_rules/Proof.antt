@@ -1,5 +1,4 @@
 -- `checks::activity_rules` meets its contract: the first of the seven rules that is broken answers. Assumes nothing.
-use mathlib.Core.Path.{_≡_}
 use Rattle.schedule.specs.Model.{model}
 use Rattle.schedule.specs.Plan.{plan}
 use Rattle.schedule.specs.Checks.{rule21, rule22, rule23, rule24, rule25, rule26, rule27}

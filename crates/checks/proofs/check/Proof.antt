@@ -1,5 +1,5 @@
 -- `checks::check` meets its contract: the records' rules, then those of the plan, and the figures of a pass. Assumes nothing.
-use mathlib.Core.Path.{_≡_, sym, ap, _∙_}
+use mathlib.Core.Path.{sym, ap, _∙_}
 use Rattle.schedule.specs.Model.{model}
 use Rattle.schedule.specs.Plan.{plan}
 use Rattle.schedule.specs.Answers.{accepted, answer, figures}

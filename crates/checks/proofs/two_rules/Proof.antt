@@ -1,6 +1,6 @@
 -- `checks::two_rules` meets its contract: the rule of how many are active, and where it holds the rule by rank. Assumes nothing.
 use native.Mathlib.Omega.{arith}
-use mathlib.Core.Path.{_≡_, sym, subst, ap, _∙_}
+use mathlib.Core.Path.{sym, subst, ap, _∙_}
 use Rattle.schedule.specs.Rule.{break}
 use Rattle.schedule.specs.Model.{model}
 use Rattle.schedule.specs.Plan.{plan}

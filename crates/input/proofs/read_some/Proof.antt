@@ -1,7 +1,6 @@
 -- `input::read_some` is safe and ends. The buffer keeps its length, and the measure is the turns left.
 -- Assumes nothing.
 use borrow.Author.Needs.{needs}
-use Prim.Native.Nat.{_≤_}
 use mathlib.Core.Path.{_≡_}
 use lib.ListN.{length}
 use Rattle.input.proofs.read_some.Statement.{statement}

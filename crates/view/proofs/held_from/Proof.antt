@@ -1,4 +1,4 @@
--- `view::held_from` meets its contract. Assumes nothing.
+-- `view::held_from` meets its contract, by its tests. Assumes nothing.
 use native.Mathlib.Omega.{arith}
 use borrow.Author.Needs.{needs}
 use Rattle.view.specs.Grid.{heldFrom}

@@ -46,7 +46,7 @@ use Rattle.schedule.specs.declared.WordAt.{WordAt}
 use Rattle.schedule.proofs.WordAt as S
 use Rattle.schedule.proofs.WordAt.Laws as S′
 use Rattle.records.specs.Reads.{passNumbers}
-use Rattle.view.specs.Grid.{gridBytes, gridWord}
+use Rattle.view.specs.Grid.{viewBytes, gridWord}
 use Rattle.view.specs.declared.View.{View}
 use Rattle.view.proofs.GridLaws.{grid-gives}
 use Rattle.view.proofs.View as T
@@ -126,7 +126,7 @@ module _ {M : Type 1} (𝓤 : URA M) (H : Heap 𝓤) (A : Atoms 𝓤) (W : Given
 
   -- what `over` says of the view that it returns
   abbrev Made : View → Type 0
-  Made d = (now (d .grid) ≡ gridBytes (now s) (now r)) × (passNumbers (d .made) ≡ viewRefusal (now s) (now r))
+  Made d = (now (d .grid) ≡ viewBytes (now s) (now r)) × (passNumbers (d .made) ≡ viewRefusal (now s) (now r))
 
   over-said : (d : View) → ent 𝓤 (ensured 𝓤 H A over.ended (over.clauses 𝓤 H A mem run) κs (s, (r, tt)) tt d) (fact 𝓤 (Made d))
   over-said d = exE 𝓤 _ (λ ws. snd∗ 𝓤 (sem 𝓤 H A (lasts over.ended κs (s, (r, tt)) ws)) (fact 𝓤 (Made d)))

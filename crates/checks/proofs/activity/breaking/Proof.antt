@@ -1,6 +1,6 @@
 -- `checks::activity::breaking` meets its contract, rule by rule. Assumes nothing.
 use native.Mathlib.Omega.{arith}
-use mathlib.Core.Path.{_≡_, refl, ap, _∙_}
+use mathlib.Core.Path.{refl, ap, _∙_}
 use Rattle.schedule.specs.Model.{model}
 use Rattle.schedule.specs.Plan.{plan}
 use Rattle.schedule.specs.Checks.{deadlineRule, rule21, rule22, rule23, rule24, rule27}

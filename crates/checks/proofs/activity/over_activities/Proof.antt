@@ -1,5 +1,5 @@
 -- `checks::activity::over_activities` meets its contract: the activities passed are clear. Assumes nothing.
-use Prim.Native.Nat.{ℕ, _≤_, _<_, _-_}
+use Prim.Native.Nat.{ℕ, _≤_, _-_}
 use native.Mathlib.Omega.{arith}
 use mathlib.Core.Option.{some}
 use mathlib.Core.Path.{_≡_, sym, subst, ap, _∙_}

@@ -1,6 +1,6 @@
 -- `checks::figures::figures_of` meets its contract, figure by figure. Assumes nothing.
 use Prim.Native.Nat.{_*_, _-_, _<_}
-use mathlib.Core.Path.{_≡_, sym, subst, ap, ap₂, _∙_}
+use mathlib.Core.Path.{sym, subst, ap, ap₂, _∙_}
 use Rattle.schedule.specs.Bounded.{ones, total, greatest, least}
 use Rattle.schedule.specs.Fields.{Bytes}
 use Rattle.schedule.specs.Plan.{plan}

@@ -1,6 +1,6 @@
 -- `checks::tables::earliest` meets its contract: the larger of the release and what the predecessors let go. Assumes nothing.
 use Prim.Native.Nat.{max}
-use mathlib.Core.Path.{_≡_, ap, ap₂, _∙_}
+use mathlib.Core.Path.{ap, ap₂, _∙_}
 use Rattle.schedule.specs.Plan.{plan}
 use Rattle.records.specs.declared.plan.Timing.{Timing}
 use Rattle.records.specs.Rows.{timing}

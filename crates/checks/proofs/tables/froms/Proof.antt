@@ -1,7 +1,7 @@
 -- `checks::tables::froms` meets its contract: the table is right at the activities passed. Assumes nothing.
 use Prim.Native.Nat.{ℕ, _≤_, _<_, _-_, max}
 use native.Mathlib.Omega.{arith}
-use mathlib.Core.Path.{_≡_, refl, ap, ap₂, _∙_}
+use mathlib.Core.Path.{_≡_, refl, ap, _∙_}
 use lib.ListN.{length, getD, length-set}
 use Rattle.schedule.specs.Model.{model}
 use Rattle.records.specs.declared.model.Sizes.{Sizes}

@@ -1,7 +1,7 @@
 -- `checks::tables::rank_masks` meets its contract: the table is right at the activities passed, and 0 beyond. Assumes nothing.
 use native.Mathlib.Omega.{arith}
 use Prim.Native.Nat.{ℕ, _≤_, _<_, _-_}
-use mathlib.Core.Path.{_≡_, refl, ap, _∙_}
+use mathlib.Core.Path.{_≡_, refl, _∙_}
 use lib.ListN.{length, getD, length-set}
 use lib.Seq.{getD-set-other}
 use Rattle.schedule.specs.Bounded.{wordOf}

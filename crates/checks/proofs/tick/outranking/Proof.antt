@@ -2,10 +2,10 @@
 use native.Mathlib.Omega.{arith}
 use Prim.Native.Nat.{ℕ, _^_, _<_}
 use mathlib.Core.Bool.{_&&_, _||_}
-use mathlib.Core.Path.{_≡_, refl, ap, ap₂, _∙_}
+use mathlib.Core.Path.{_≡_, refl, _∙_}
 use lib.ListN.{getD}
 use Rattle.schedule.specs.Bounded.{bit}
-use Rattle.checks.specs.Tables.{some, outranking, outrankingOf}
+use Rattle.checks.specs.Tables.{any, outrankingOf}
 use Rattle.bits.proofs.Apart.{lowest-lt, rest-less}
 use Rattle.checks.proofs.WordLoops.{join-next, joined-whole}
 use borrow.Author.Needs.{needs}
@@ -15,7 +15,7 @@ use Rattle.checks.proofs.tick.outranking.Tie as tie
 abbrev Inv-loop : tie.InvT-loop
 Inv-loop word masks all₀ rest₀ all rest =
     (rest < 2 ^ 32) × (all < 2 ^ 32)
-    × ((b : ℕ) → (bit all b || some 32 (λ a. bit rest a && bit (getD masks a 0) b)) ≡ (bit 0 b || some 32 (λ a. bit word a && bit (getD masks a 0) b)))
+    × ((b : ℕ) → (bit all b || any 32 (λ a. bit rest a && bit (getD masks a 0) b)) ≡ (bit 0 b || any 32 (λ a. bit word a && bit (getD masks a 0) b)))
 
 abbrev μ-loop : tie.MeasureT-loop
 μ-loop word masks all₀ rest₀ all rest = rest

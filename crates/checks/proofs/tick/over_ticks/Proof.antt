@@ -1,9 +1,8 @@
 -- `checks::tick::over_ticks` meets its contract: the ticks passed are clear. Assumes nothing.
-use Prim.Native.Nat.{ℕ, _≤_, _<_, _-_}
+use Prim.Native.Nat.{ℕ, _≤_, _-_}
 use native.Mathlib.Omega.{arith}
 use mathlib.Core.Option.{some}
-use mathlib.Core.Path.{_≡_, refl, sym, subst, ap, _∙_}
-use Rattle.schedule.specs.Rule.{Refusal}
+use mathlib.Core.Path.{_≡_, sym, subst, ap, _∙_}
 use Rattle.schedule.specs.Model.{model}
 use Rattle.schedule.specs.Plan.{plan}
 use Rattle.schedule.specs.Numbers.{ruleNumber}

@@ -1,6 +1,6 @@
 -- `checks::windows::at` meets its contract: what is known stands, or is made anew. Assumes nothing.
 use native.Mathlib.Omega.{arith}
-use mathlib.Core.Path.{_≡_, sym, _∙_}
+use mathlib.Core.Path.{sym, _∙_}
 use Rattle.checks.proofs.WindowLaws.{quiet-same}
 use borrow.Author.Needs.{needs}
 use Rattle.checks.proofs.windows.at.Statement.{statement}

@@ -1,15 +1,10 @@
 -- `checks::windows::strays` meets its contract, by the table of starts. Assumes nothing.
 use native.Mathlib.Omega.{arith}
-use mathlib.Core.Bool.{_&&_, not}
-use mathlib.Core.Path.{_≡_, ap, ap₂, _∙_}
-use Prim.Native.Nat.{ℕ}
-use lib.Dec.{leb, ltb}
-use Rattle.schedule.specs.Bounded.{all, _⇒_}
+use mathlib.Core.Path.{ap}
 use Rattle.schedule.specs.Model.{model}
 use Rattle.schedule.specs.Plan.{plan}
 use Rattle.records.specs.declared.model.Sizes.{Sizes}
 use Rattle.records.specs.Rows.{sizesOf}
-use Rattle.checks.specs.Rules.{noneOutside}
 use Rattle.checks.proofs.WindowLaws.{strays-read}
 use borrow.Author.Needs.{needs}
 use Rattle.checks.proofs.windows.strays.Statement.{statement}

@@ -1,12 +1,12 @@
--- `run::finish::first_late` meets its contract: every activity passed keeps its deadline.
--- Assumes nothing.
-use Prim.Native.Nat.{ℕ, _≤_, _-_}
+-- `run::finish::first_late` meets its contract: every activity passed keeps its deadline. Assumes nothing.
 use native.Mathlib.Omega.{arith}
+use Prim.Native.Nat.{ℕ, _≤_, _-_}
 use mathlib.Core.Bool.{Bool, not}
 use mathlib.Core.Path.{sym, subst, ap}
 use lib.Dec.{T}
 use Rattle.run.specs.Front.{onTime}
 use Rattle.run.proofs.PlanLaws.{Clear, clear-none, clear-more, found-here, found-none}
+use borrow.Author.Needs.{needs}
 use Rattle.run.proofs.finish.first_late.Statement.{statement}
 use Rattle.run.proofs.finish.first_late.Tie as tie
 
@@ -21,13 +21,26 @@ loop-holds c =
     let x = c .args in
     (omega arith, clear-none (λ a. not (onTime (x .periods .now) (x .ends .now) a)))
 
+mul-on-time : tie.Need-mul-on-time Inv-loop μ-loop
+mul-on-time c = omega arith
+
+element-copy-out-on-time : tie.Need-element-copy-out-on-time Inv-loop μ-loop
+element-copy-out-on-time c = omega arith
+
+mul-on-time-2 : tie.Need-mul-on-time-2 Inv-loop μ-loop
+mul-on-time-2 c = omega arith
+
+element-copy-out-on-time-2 : tie.Need-element-copy-out-on-time-2 Inv-loop μ-loop
+element-copy-out-on-time-2 c = omega arith
+
 on-time-requires : tie.Need-on-time-requires Inv-loop μ-loop
-on-time-requires c κs = omega arith
+on-time-requires c κs = search needs
 
 returns : tie.Need-returns Inv-loop μ-loop
+unfolding onTime
 returns c =
-    let x = c .before .before .before .before .args in
-    let l = c .before .before .before .loop in
+    let x = c .before .before .before .before .before .before .args in
+    let l = c .before .before .before .before .before .loop in
     let p : ℕ → Bool = λ a. not (onTime (x .periods .now) (x .ends .now) a) in
     found-here (x .n) p (l .a) (not (c .before .on-time .result)) (omega arith) (l .inv .1) (ap not (c .before .on-time .ensures)) (subst T (sym (c .if1 .taken)) tt)
 
@@ -38,9 +51,10 @@ loop-less : tie.Need-loop-less Inv-loop μ-loop
 loop-less c = omega arith
 
 loop-again : tie.Need-loop-again Inv-loop μ-loop
+unfolding onTime
 loop-again c =
-    let x = c .before .before .before .before .args in
-    let l = c .before .before .before .loop in
+    let x = c .before .before .before .before .before .before .args in
+    let l = c .before .before .before .before .before .loop in
     let p : ℕ → Bool = λ a. not (onTime (x .periods .now) (x .ends .now) a) in
     (omega arith, clear-more p (l .a) (not (c .before .on-time .result)) (l .inv .1) (ap not (c .before .on-time .ensures)) (λ t. subst T (c .if1 .left) t))
 
@@ -54,6 +68,10 @@ first-late-spec =
     Inv-loop
     μ-loop
     loop-holds
+    mul-on-time
+    element-copy-out-on-time
+    mul-on-time-2
+    element-copy-out-on-time-2
     on-time-requires
     returns
     add-a

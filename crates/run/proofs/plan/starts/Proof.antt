@@ -1,7 +1,6 @@
 -- `run::plan::starts` meets its contract: what was seen has its first tick, the rest none so far. Assumes nothing.
 use native.Mathlib.Omega.{arith}
 use Prim.Native.Nat.{_≤_, _<_, _-_}
-use mathlib.Core.Path.{refl}
 use Rattle.run.specs.Front.{wordIn}
 use Rattle.run.proofs.StartLaws.{Seen, seen-start, seen-next, seen-end}
 use borrow.Author.Needs.{needs}

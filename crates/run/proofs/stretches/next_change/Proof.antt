@@ -1,6 +1,6 @@
--- `run::stretches::next_change` meets its contract: nothing of the activities passed passes before `next`. Assumes nothing.
+-- `run::stretches::next_change` meets its contract: of the activities gone through, nothing passes before `next`. Assumes nothing.
 use native.Mathlib.Omega.{arith}
-use Prim.Native.Nat.{_≤_, _<_, _-_}
+use Prim.Native.Nat.{_≤_, _-_}
 use mathlib.Core.Path.{_≡_}
 use Rattle.run.specs.Stretches.{Quiet}
 use Rattle.run.proofs.StretchLaws.{quiet-start, quiet-next}

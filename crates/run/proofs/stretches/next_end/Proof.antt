@@ -1,4 +1,4 @@
--- `run::stretches::next_end` meets its contract: what the rest of the word has not owes something up to `next`. Assumes nothing.
+-- `run::stretches::next_end` meets its contract: what the rest of the word has not owes something at every tick before `next`. Assumes nothing.
 use native.Mathlib.Omega.{arith}
 use Rattle.bits.proofs.Apart.{lowest-lt, rest-less}
 use Rattle.run.proofs.StretchLaws.{Ending, ending-start, ending-next, ending-end}

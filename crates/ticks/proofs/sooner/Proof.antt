@@ -1,7 +1,7 @@
--- `numbers::sooner` meets its contract, by its tests. Assumes nothing.
+-- `ticks::sooner` meets its contract, by its tests. Assumes nothing.
 use borrow.Author.Tests.{lt-ltb, le-ltb}
-use Rattle.numbers.proofs.sooner.Statement.{statement}
-use Rattle.numbers.proofs.sooner.Tie as tie
+use Rattle.ticks.proofs.sooner.Statement.{statement}
+use Rattle.ticks.proofs.sooner.Tie as tie
 
 returns : tie.Need-returns
 returns c = simp (lt-ltb _ _ (c .before .if1 .taken), lt-ltb _ _ (c .if2 .taken))

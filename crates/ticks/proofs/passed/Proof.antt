@@ -1,12 +1,12 @@
--- `run::machine::passed` meets its contract: the delay is compared with what is left after the end, so that no sum can wrap.
+-- `ticks::passed` meets its contract: the delay is compared with what is left after the end, so that no sum can wrap.
 -- Assumes nothing.
 use Prim.Native.Nat.{_+_}
 use native.Mathlib.Omega.{arith}
 use mathlib.Core.Path.{sym}
 use borrow.Author.Tests.{lt-leb}
-use Rattle.run.proofs.MaskLaws.{passed-from}
-use Rattle.run.proofs.machine.passed.Statement.{statement}
-use Rattle.run.proofs.machine.passed.Tie as tie
+use Rattle.laws.proofs.Between.{passed-from}
+use Rattle.ticks.proofs.passed.Statement.{statement}
+use Rattle.ticks.proofs.passed.Tie as tie
 
 returns : tie.Need-returns
 returns c = passed-from _ _ _ (c .if1 .taken)

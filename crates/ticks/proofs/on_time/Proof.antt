@@ -1,0 +1,14 @@
+-- `ticks::on_time` meets its contract: a test for a period, and one of the end.
+-- Assumes nothing.
+use borrow.Author.Tests.{eq-eqb, ne-eqb}
+use Rattle.ticks.proofs.on_time.Statement.{statement}
+use Rattle.ticks.proofs.on_time.Tie as tie
+
+returns : tie.Need-returns
+returns c = rw (eq-eqb _ _ (c .if1 .taken))
+
+returns-2 : tie.Need-returns-2
+returns-2 c = rw (ne-eqb _ _ (c .if1 .left))
+
+pub on-time-spec : {M : Type 1} → statement M
+on-time-spec = tie.close (tie.spec returns returns-2)

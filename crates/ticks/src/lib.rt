@@ -1,0 +1,32 @@
+// The paper's comparisons of ticks, made once for the checks and for the run.
+ghost use mathlib.Core.Path.{_≡_};
+ghost use mathlib.Core.Bool.{_&&_, not, cond};
+ghost use Prim.Native.Nat.{_+_};
+ghost use lib.Dec.{eqb, leb, ltb};
+ghost use Rattle.schedule.specs.Bounded.{_⇒_};
+
+// "end + that predecessor's delay ≤ t", for every end and delay: no sum is made.
+pub fn passed(end: u32, delay: u32, t: u32) -> bool
+    ensures { λ r. ⌜ r ≡ leb (end + delay) t ⌝ }
+{
+    if end <= t { delay <= t - end } else { false }
+}
+
+// "a thread with a period has end ≤ that period": period 0 is none.
+pub fn on_time(period: u32, end: u32) -> bool
+    ensures { λ r. ⌜ r ≡ (not (eqb period 0) ⇒ leb end period) ⌝ }
+{
+    if period == 0 { true } else { end <= period }
+}
+
+// `next`, or `other` where that comes after tick t and before `next`.
+pub fn sooner(next: u32, other: u32, t: u32) -> u32
+    ensures { λ r. ⌜ r ≡ cond (ltb t other && ltb other next) other next ⌝ }
+{
+    if t < other {
+        if other < next {
+            return other;
+        }
+    }
+    next
+}
