@@ -1,6 +1,6 @@
 -- What the code of rules 21 to 27 answers at an activity is the mask of the rule's broken places there.
 -- Assumes nothing.
-use Prim.Native.Nat.{ℕ, _+_, _-_, _≤_, _<_}
+use Prim.Native.Nat.{ℕ, zero, suc, _+_, _-_, _≤_, _<_}
 use native.Mathlib.Nat.{add-zero}
 use native.Mathlib.Omega.{arith}
 use mathlib.Core.Bool.{Bool, true, _&&_, not, cond, Bool·not-not}
@@ -23,7 +23,7 @@ use Rattle.laws.proofs.RowLaws.{brokenMask}
 use Rattle.checks.specs.declared.activity.ActivityRule.{ActivityRule}
 use Rattle.checks.specs.Tables.{Holds, finishOf}
 use Rattle.checks.proofs.MaskRow.{one-column}
-use Rattle.checks.specs.Rules.{activityRule, activityName, earlyFrom, noneOutside}
+use Rattle.checks.specs.Rules.{activityRule, activityName, ruleAt, earlyFrom, noneOutside}
 
 -- 21, where only "none outside" is left to try
 pub window-outside : (m : Model) (p : Plan) (a : ℕ) (stray : Bool) → ltb (p .start a) (p .end a) ≡ true
@@ -58,6 +58,16 @@ data-mask m p ends none a preceding start n e s k h z =
 pub eligible-sum : (e k s : ℕ) → leb (e + k) (s + k) ≡ leb e s
 eligible-sum e k s = T-ext _ _ (λ t. T-leb e s .1 (omega (arith, T-leb (e + k) (s + k) .0 t)))
     (λ t. T-leb (e + k) (s + k) .1 (omega (arith, T-leb e s .0 t)))
+
+-- the last rule from 6 on
+pub last-rule-at : (k : ℕ) → 6 ≤ k → ActivityRule.Eligible ≡ ruleAt k
+last-rule-at zero h = absurd (omega arith)
+last-rule-at (suc zero) h = absurd (omega arith)
+last-rule-at (suc (suc zero)) h = absurd (omega arith)
+last-rule-at (suc (suc (suc zero))) h = absurd (omega arith)
+last-rule-at (suc (suc (suc (suc zero)))) h = absurd (omega arith)
+last-rule-at (suc (suc (suc (suc (suc zero))))) h = absurd (omega arith)
+last-rule-at (suc (suc (suc (suc (suc (suc k)))))) h = refl
 
 -- a rule of activities is tried at m activities and at no more than 32 columns
 pub activity-rows : (rule : ActivityRule) (m : Model) (p : Plan) → activityRule rule m p .rows ≡ m .activities

@@ -40,6 +40,13 @@ after-parts m n done a =
     greatest-ext n _ _ (λ b _. term (temporally m b a) (byData m b a) (done b) (m .delay b))
     ∙ split n (λ b. cond (temporally m b a) (done b + m .delay b) 0) (λ b. cond (byData m b a) (done b) 0)
 
+-- one predecessor's term by what it is: temporal, by data, or none
+pub term-temporal : (t d : Bool) (x y : ℕ) → t ≡ true → x + y ≡ cond t (x + y) (cond d x 0)
+term-temporal t d x y e = sym (ap (λ (b : Bool). cond b (x + y) (cond d x 0)) e)
+
+pub term-other : (t d v : Bool) (x y : ℕ) → t ≡ false → d ≡ v → cond v x 0 ≡ cond t (x + y) (cond d x 0)
+term-other t d v x y e f = sym (ap₂ (λ (b c : Bool). cond b (x + y) (cond c x 0)) e f)
+
 -- one predecessor's term, as the code reads it
 pub term-reads : (temporal by-data b done delay delay′ free : ℕ) (t d : Bool) → free ≡ cond t (done + delay) (cond d done 0)
     → t ≡ bit temporal b → d ≡ bit by-data b → delay ≡ delay′

@@ -1,13 +1,15 @@
 -- The rules of a whole check in the order in which the code tries them, and the tables that it tries them with.
 -- Assumes nothing.
-use Prim.Native.Nat.{ℕ, _+_, _-_, _≤_, max}
+use Prim.Native.Nat.{ℕ, zero, suc, _+_, _-_, _≤_, _<_, max}
+use native.Mathlib.Numerals.{add-one}
 use native.Mathlib.Omega.{arith}
 use mathlib.Core.Bool.{Bool, true, false, _&&_, cond}
-use mathlib.Core.List.{List, _++_}
+use mathlib.Core.List.{List, _∷_, _++_}
 use mathlib.Core.Path.{_≡_, refl, sym, subst, ap, ap₂, _∙_}
 use lib.Dec.{eqb, ltb}
+use lib.ListN.{drop}
 use Rattle.schedule.specs.Bounded.{wordOf}
-use Rattle.schedule.specs.Rule.{firstBreak}
+use Rattle.schedule.specs.Rule.{break, firstBreak}
 use Rattle.schedule.specs.Model.{Model, priorityOf, temporally, byData}
 use Rattle.schedule.specs.Plan.{Plan}
 use Rattle.schedule.specs.Checks.{countOf, plainRules, strictRules}
@@ -16,11 +18,48 @@ use Rattle.laws.proofs.Sums.{greatest-ext}
 use Rattle.laws.proofs.Words.{wordOf-ext}
 use Rattle.records.specs.declared.Pass.{Pass}
 use Rattle.records.specs.Reads.{passNumbers}
+use Rattle.checks.specs.declared.activity.ActivityRule.{ActivityRule}
 use Rattle.checks.specs.declared.tick.TickRule.{TickRule}
 use Rattle.checks.specs.Tables.{Holds, HoldsOnly, after, finishOf, fromOf, outranksFrom, rankMask, loadRule, rankRule, Ranked, Tabled, Timed}
-use Rattle.checks.specs.Rules.{activityRules, twoRules, tickRules, gridRules}
+use Rattle.checks.specs.Rules.{activityRule, ruleAt, activityRules, twoRules, tickRules, gridRules}
 use Rattle.checks.proofs.EfeTable.{from-after}
-use Rattle.checks.proofs.ListLaws.{list-stops, list-goes-on}
+use Rattle.checks.proofs.ListLaws.{stops, goes-on, list-stops, list-goes-on}
+
+-- the rules of activities from the k-th on
+drop-rule : (m : Model) (p : Plan) (k : ℕ) → k < 7
+    → drop k (activityRules m p) ≡ activityRule (ruleAt k) m p ∷ drop (suc k) (activityRules m p)
+unfolding activityRules
+drop-rule m p zero l = refl
+drop-rule m p (suc zero) l = refl
+drop-rule m p (suc (suc zero)) l = refl
+drop-rule m p (suc (suc (suc zero))) l = refl
+drop-rule m p (suc (suc (suc (suc zero)))) l = refl
+drop-rule m p (suc (suc (suc (suc (suc zero))))) l = refl
+drop-rule m p (suc (suc (suc (suc (suc (suc zero)))))) l = refl
+drop-rule m p (suc (suc (suc (suc (suc (suc (suc k))))))) l = absurd (omega arith)
+
+module _ (m : Model) (p : Plan) (k : ℕ) (less : k < 7) (rule : ActivityRule) (told : rule ≡ ruleAt k) (pass : Pass)
+    (e : passNumbers pass ≡ break (activityRule rule m p)) where
+  named : passNumbers pass ≡ break (activityRule (ruleAt k) m p)
+  named = e ∙ ap (λ (r : ActivityRule). break (activityRule r m p)) told
+
+  -- the k-th is broken
+  pub rule-breaks : (x : Refusal) → pass ≡ Pass.Refused x → passNumbers pass ≡ firstBreak (drop k (activityRules m p))
+  rule-breaks x h =
+      stops pass x (activityRule (ruleAt k) m p) (drop (suc k) (activityRules m p)) h named
+      ∙ sym (ap firstBreak (drop-rule m p k less))
+
+  -- it holds, and the rest decides
+  pub rule-holds : pass ≡ Pass.Holds → firstBreak (drop (k + 1) (activityRules m p)) ≡ firstBreak (drop k (activityRules m p))
+  rule-holds h =
+      ap (λ (i : ℕ). firstBreak (drop i (activityRules m p))) (add-one k)
+      ∙ goes-on pass (activityRule (ruleAt k) m p) (drop (suc k) (activityRules m p)) _ h named refl
+      ∙ sym (ap firstBreak (drop-rule m p k less))
+
+-- all seven hold
+pub rules-end : (m : Model) (p : Plan) (k : ℕ) → k ≡ 7 → passNumbers Pass.Holds ≡ firstBreak (drop k (activityRules m p))
+unfolding activityRules firstBreak
+rules-end m p k e = sym (ap (λ (i : ℕ). firstBreak (drop i (activityRules m p))) e)
 
 grid-split : (strict : Bool) (m : Model) (p : Plan) → activityRules m p ++ tickRules strict m p ≡ gridRules strict m p
 unfolding activityRules twoRules plainRules strictRules

@@ -1,6 +1,6 @@
 -- The rules of activities by name, what their code needs, and the rules of a check in the order in which they are tried.
 -- Assumes nothing.
-use Prim.Native.Nat.{ℕ, _+_, _≤_, _<_}
+use Prim.Native.Nat.{ℕ, zero, suc, _+_, _≤_, _<_}
 use mathlib.Core.Bool.{Bool, true, false, _&&_, not}
 use mathlib.Core.List.{List, [], _∷_, _++_}
 use mathlib.Core.Path.{_≡_}
@@ -51,6 +51,16 @@ pub record Counted (m : Model) (p : Plan) (outside : ℕ) (counts finishes ends 
   pub finish-ticks : Holds m finishes (finishOf m p)
   pub end-ticks : Holds m ends (p .end)
   pub delay-ticks : Holds m delays (m .delay)
+
+-- the rules of activities in the order in which they are tried; from 6 on the last
+abbrev pub ruleAt : ℕ → ActivityRule
+ruleAt zero = ActivityRule.Window
+ruleAt (suc zero) = ActivityRule.Count
+ruleAt (suc (suc zero)) = ActivityRule.Deadline
+ruleAt (suc (suc (suc zero))) = ActivityRule.Span
+ruleAt (suc (suc (suc (suc zero)))) = ActivityRule.Temporal
+ruleAt (suc (suc (suc (suc (suc zero))))) = ActivityRule.Data
+ruleAt (suc (suc (suc (suc (suc (suc k)))))) = ActivityRule.Eligible
 
 -- the rules in the order in which the code tries them
 unfoldable pub activityRules : Model → Plan → List Rule

@@ -19,7 +19,7 @@ ghost use Rattle.schedule.specs.Plan.{plan};
 ghost use Rattle.schedule.specs.Checks.{window};
 ghost use Rattle.laws.proofs.RowLaws.{brokenMask};
 ghost use Rattle.records.specs.Reads.{passNumbers};
-ghost use Rattle.checks.specs.Rules.{activityName, activityRule, earlyFrom, noneOutside, Counted};
+ghost use Rattle.checks.specs.Rules.{activityName, activityRule, ruleAt, earlyFrom, noneOutside, Counted};
 
 // The rules that are tried at activities.
 pub(crate) enum ActivityRule {
@@ -163,6 +163,21 @@ fn breaking(
         ActivityRule::Temporal => early_mask(row.temporal_mask, start, n, ends, delays),
         ActivityRule::Data => early_mask(row.data_mask, start, n, ends, &[0u32; 32]),
         ActivityRule::Eligible => flag(eligible_holds(start, counts[at], finishes[at])),
+    }
+}
+
+// The rules in the order in which they are tried, 21 first; from 6 on the last.
+pub(crate) fn rule_at(k: u8) -> ActivityRule
+    ensures { λ r. ⌜ r ≡ ruleAt k ⌝ }
+{
+    match k {
+        0 => ActivityRule::Window,
+        1 => ActivityRule::Count,
+        2 => ActivityRule::Deadline,
+        3 => ActivityRule::Span,
+        4 => ActivityRule::Temporal,
+        5 => ActivityRule::Data,
+        _ => ActivityRule::Eligible,
     }
 }
 

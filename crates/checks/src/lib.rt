@@ -5,8 +5,8 @@ mod tables;
 mod tick;
 mod windows;
 
-use activity::ActivityRule;
 use activity::over_activities;
+use activity::rule_at;
 use figures::figures_of;
 use records::Pass;
 use records::model::ModelRead;
@@ -51,94 +51,16 @@ fn activity_rules(
     requires { ⌜ Counted (model (now s)) (plan (now r)) outside (now counts) (now finishes) (now ends) (now delays) ⌝ }
     ensures { λ x. ⌜ passNumbers x ≡ firstBreak (activityRules (model (now (s .entry))) (plan (now (r .entry)))) ⌝ }
 {
-    let window = over_activities(
-        ActivityRule::Window,
-        s,
-        r,
-        outside,
-        counts,
-        finishes,
-        ends,
-        delays,
-    );
-    if let Pass::Refused(_) = window {
-        return window;
+    let mut k: u8 = 0;
+    while k < 7 {
+        let rule = rule_at(k);
+        let pass = over_activities(rule, s, r, outside, counts, finishes, ends, delays);
+        if let Pass::Refused(_) = pass {
+            return pass;
+        }
+        k += 1;
     }
-    let count = over_activities(
-        ActivityRule::Count,
-        s,
-        r,
-        outside,
-        counts,
-        finishes,
-        ends,
-        delays,
-    );
-    if let Pass::Refused(_) = count {
-        return count;
-    }
-    let deadline = over_activities(
-        ActivityRule::Deadline,
-        s,
-        r,
-        outside,
-        counts,
-        finishes,
-        ends,
-        delays,
-    );
-    if let Pass::Refused(_) = deadline {
-        return deadline;
-    }
-    let span = over_activities(
-        ActivityRule::Span,
-        s,
-        r,
-        outside,
-        counts,
-        finishes,
-        ends,
-        delays,
-    );
-    if let Pass::Refused(_) = span {
-        return span;
-    }
-    let temporal = over_activities(
-        ActivityRule::Temporal,
-        s,
-        r,
-        outside,
-        counts,
-        finishes,
-        ends,
-        delays,
-    );
-    if let Pass::Refused(_) = temporal {
-        return temporal;
-    }
-    let data = over_activities(
-        ActivityRule::Data,
-        s,
-        r,
-        outside,
-        counts,
-        finishes,
-        ends,
-        delays,
-    );
-    if let Pass::Refused(_) = data {
-        return data;
-    }
-    over_activities(
-        ActivityRule::Eligible,
-        s,
-        r,
-        outside,
-        counts,
-        finishes,
-        ends,
-        delays,
-    )
+    Pass::Holds
 }
 
 // Rules 28 and 29 or, strictly, 30 and 31: first the rule of how many are active, then the one that compares by rank.
