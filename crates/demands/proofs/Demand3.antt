@@ -103,7 +103,7 @@ module _ (s q : List ℕ) (q-bytes : Bytes q) (formed : AllHold (modelForm s))
         }
 
     -- what is read back from the machine's plan
-    back : ReadsBack (machinePlan (model s) (choice q))
+    pub back : ReadsBack (machinePlan (model s) (choice q))
     back = reads-back (machinePlan (model s) (choice q)) machine-fits
 
     written-formed : AllHold (planForm (model s) (planBytes (machinePlan (model s) (choice q))))
@@ -198,7 +198,7 @@ module _ (s q : List ℕ) (q-bytes : Bytes q) (formed : AllHold (modelForm s))
   checked = hold-append (modelForm s) (choiceForm (model s) q) .1 (formed, tested)
 
   module _ (buffer : List ℕ) (fits : lengthNeeded (model s) ≤ length buffer) where
-    settled-by : (w : Written) → runAnswer s q (length buffer) ≡ accepted w → AllHold (runRules (model s) (choice q))
+    pub settled-by : (w : Written) → runAnswer s q (length buffer) ≡ accepted w → AllHold (runRules (model s) (choice q))
     settled-by w e = run-accepted s q (length buffer) w checked fits .0 e .0
 
     its-figures : (w : Written) → runAnswer s q (length buffer) ≡ accepted w
@@ -206,7 +206,7 @@ module _ (s q : List ℕ) (q-bytes : Bytes q) (formed : AllHold (modelForm s))
     its-figures w e = sym (ap (λ (x : Written). x .figures) (run-accepted s q (length buffer) w checked fits .0 e .1))
 
     -- the buffer's first bytes are the machine's plan
-    its-plan : (w : Written) → runAnswer s q (length buffer) ≡ accepted w
+    pub its-plan : (w : Written) → runAnswer s q (length buffer) ≡ accepted w
         → planWritten s q buffer w ≡ planBytes (machinePlan (model s) (choice q))
     unfolding machinePlan lengthNeeded
     its-plan w e =

@@ -36,13 +36,13 @@ use Rattle.demands.proofs.Demand3.{machine-fits}
 
 -- what a run that succeeds has passed
 module _ (s q : List ℕ) (room : ℕ) (w : Written) (e : runAnswer s q room ≡ accepted w) where
-  checked : AllHold (runChecks s q)
+  pub checked : AllHold (runChecks s q)
   checked =
       ⊎-elim (λ h. h)
       (λ b. absurd (accepted-is-not-refused w (b .0) (sym e ∙ run-input-refused s q room (b .0) (b .1))))
       (run-input s q)
 
-  roomy : lengthNeeded (model s) ≤ room
+  pub roomy : lengthNeeded (model s) ≤ room
   roomy =
       elim (decLt room (lengthNeeded (model s))) [
         | yes l ↦ absurd (accepted-is-not-refused w _ (sym e ∙ run-short-buffer s q room checked l))

@@ -14,7 +14,7 @@ use Rattle.schedule.specs.Model.{Model, temporally, byData}
 use Rattle.schedule.specs.Plan.{Plan}
 use Rattle.schedule.specs.Checks.{countOf, efeFrom, efes, efe}
 use Rattle.laws.proofs.Tests.{below-suc}
-use Rattle.laws.proofs.Sums.{greatest-ext, greatest-bound}
+use Rattle.laws.proofs.Sums.{greatest-ext, greatest-bound, greatest-each}
 
 -- "b must be below the row's own number"
 pub record Ordered (m : Model) : Type 0 where
@@ -29,6 +29,10 @@ if-same false x y h = refl
 if-bound : (t : Bool) (x y : ℕ) → (T t → x ≤ y) → cond t x 0 ≤ y
 if-bound true x y h = h tt
 if-bound false x y h = omega arith
+
+if-taken : (t : Bool) (x : ℕ) → T t → cond t x 0 ≡ x
+if-taken true x h = refl
+if-taken false x h = absurd h
 
 module _ (m : Model) (p : Plan) where
   length-efes : (k : ℕ) → length (efes m p k) ≡ k
@@ -75,6 +79,21 @@ module _ (m : Model) (p : Plan) where
   pub efe-release : Ordered m → (a : ℕ) → a < m .activities → p .release (m .thread a) ≤ efe m p a
   unfolding efeFrom
   efe-release o a l = omega (arith, efe-equation o a l)
+
+  -- efe is at least what each predecessor lets go
+  pub efe-temporal : Ordered m → (a b : ℕ) → a < m .activities → b < m .activities → T (temporally m b a)
+      → efe m p b + countOf m p b + m .delay b ≤ efe m p a
+  unfolding efeFrom
+  efe-temporal o a b l lb t =
+      let term = greatest-each (m .activities) (λ b. cond (temporally m b a) (efe m p b + countOf m p b + m .delay b) 0) b lb in
+      omega (arith, efe-equation o a l, term, if-taken (temporally m b a) (efe m p b + countOf m p b + m .delay b) t)
+
+  pub efe-data : Ordered m → (a b : ℕ) → a < m .activities → b < m .activities → T (byData m b a)
+      → efe m p b + countOf m p b ≤ efe m p a
+  unfolding efeFrom
+  efe-data o a b l lb t =
+      let term = greatest-each (m .activities) (λ b. cond (byData m b a) (efe m p b + countOf m p b) 0) b lb in
+      omega (arith, efe-equation o a l, term, if-taken (byData m b a) (efe m p b + countOf m p b) t)
 
   -- nothing that efe is the largest of passes x, so efe does not
   pub efe-bound : Ordered m → (a x : ℕ) → a < m .activities → p .release (m .thread a) ≤ x

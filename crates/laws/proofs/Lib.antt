@@ -20,5 +20,6 @@ pub mod Unique
 pub mod Exists
 pub mod NumbersLaws
 pub mod LinesLaws
+pub mod LineLengths
 pub mod RowLaws
 pub mod Formed

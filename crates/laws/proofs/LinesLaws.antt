@@ -1,16 +1,19 @@
--- A number in decimal: its digits one by one, and that they read back as the number, so that its fuel is enough; and an
--- input within the limit.
+-- A number in decimal: its digits one by one, and that they read back as the number, so that its fuel is enough; an input
+-- within the limit, and that the second record of bytes is bytes.
 -- Assumes nothing.
 use Prim.Native.Nat.{ℕ, zero, suc, _+_, _-_, _*_, _/_, _%_, _≤_, _<_}
 use native.Mathlib.Decide.{decLt}
 use native.Mathlib.Omega.{arith}
+use mathlib.Core.Bool.{Bool, true, false, cond}
 use mathlib.Core.List.{List, [], _∷_, _++_}
 use mathlib.Core.Path.{_≡_, refl, sym, ap, _∙_}
-use lib.ListN.{length}
-use lib.Seq.{take-all}
+use lib.ListN.{length, drop, length-take}
+use lib.Seq.{take-all, getD-take, getD-drop}
 use borrow.Author.Tests.{lt-ltb, le-ltb}
-use Rattle.schedule.specs.Streams.{inputLimit, taken}
+use Rattle.schedule.specs.Fields.{field, Bytes}
+use Rattle.schedule.specs.Streams.{inputLimit, taken, splits, secondRecord}
 use Rattle.schedule.specs.Lines.{digits, decimal}
+use Rattle.laws.proofs.FieldLaws.{byte-lt}
 
 -- a number below 10 is one digit; of any other the last digit stands behind the others
 digits-small : (k n : ℕ) → n < 10 → digits (suc k) n ≡ (48 + n) ∷ []
@@ -74,3 +77,20 @@ decimal-read n = read-below (suc n) n (omega arith)
 pub taken-whole : (s : List ℕ) → length s ≤ inputLimit → taken s ≡ s
 unfolding taken
 taken-whole s h = take-all inputLimit s h
+
+-- the bytes that are taken, and the second record of bytes, are bytes
+bytes-taken : (s : List ℕ) → Bytes s → Bytes (taken s)
+unfolding taken
+bytes-taken s h i l =
+    rw (getD-take inputLimit s i 0 (omega (arith, length-take inputLimit s))) (byte-lt s h i)
+
+bytes-second : (s : List ℕ) → Bytes s → Bytes (secondRecord s)
+unfolding secondRecord
+bytes-second s h = by (splits s)
+  where
+    by : (t : Bool) → Bytes (cond t (drop (field s 0 4) s) [])
+    by true = λ i l. rw (getD-drop (field s 0 4) s i 0) (byte-lt s h (field s 0 4 + i))
+    by false = λ i l. absurd (omega arith)
+
+pub second-bytes : (s : List ℕ) → Bytes s → Bytes (secondRecord (taken s))
+second-bytes s h = bytes-second (taken s) (bytes-taken s h)

@@ -1,4 +1,4 @@
--- Which numbers the refusals of a list of rules can have.
+-- What every rule of a list has, its first break has: which numbers the refusals can have.
 -- Assumes nothing.
 use Prim.Native.Nat.{ℕ, _<_}
 use native.Mathlib.Omega.{arith}
@@ -22,31 +22,41 @@ use Rattle.schedule.specs.Choice.{Choice, choiceCounts, rangeRule, durationRule
 use Rattle.schedule.specs.Checks.{deadlineRule}
 use Rattle.schedule.specs.Answers.{owedRule, runRules, runChecks}
 
--- every rule's number has a property
-abbrev pub AllNumbers : (ℕ → Type 0) → List Rule → Type 0
-AllNumbers P [] = Unit {0}
-AllNumbers P (r ∷ rs) = P (r .number) × AllNumbers P rs
+-- every rule of a list has a property
+abbrev pub AllRules : (Rule → Type 0) → List Rule → Type 0
+AllRules P [] = Unit {0}
+AllRules P (r ∷ rs) = P r × AllRules P rs
 
-at-split : (P : ℕ → Type 0) (before : List Rule) (rule : Rule) (after : List Rule)
-    → AllNumbers P (before ++ (rule ∷ after)) → P (rule .number)
+-- every rule's number has one
+abbrev pub AllNumbers : (ℕ → Type 0) → List Rule → Type 0
+AllNumbers P rules = AllRules (λ r. P (r .number)) rules
+
+at-split : (P : Rule → Type 0) (before : List Rule) (rule : Rule) (after : List Rule)
+    → AllRules P (before ++ (rule ∷ after)) → P rule
 at-split P [] rule after h = h .0
 at-split P (r ∷ before) rule after h = at-split P before rule after (h .1)
 
-numbers-append : (P : ℕ → Type 0) (xs ys : List Rule) → AllNumbers P xs → AllNumbers P ys → AllNumbers P (xs ++ ys)
-numbers-append P [] ys h k = k
-numbers-append P (r ∷ xs) ys h k = (h .0, numbers-append P xs ys (h .1) k)
+pub rules-append : (P : Rule → Type 0) (xs ys : List Rule) → AllRules P xs → AllRules P ys → AllRules P (xs ++ ys)
+rules-append P [] ys h k = k
+rules-append P (r ∷ xs) ys h k = (h .0, rules-append P xs ys (h .1) k)
 
--- then so has the number of its first break
+-- then so has the rule that is broken first
+pub first-broken-rule : (P : Rule → Type 0) (rules : List Rule) (x : Refusal)
+    → AllRules P rules → (h : FirstBroken rules x) → P (h .rule)
+first-broken-rule P rules x all h =
+    at-split P (h .before) (h .rule) (h .after) (subst (AllRules P) (h .splits) all)
+
+-- and the number of the first break
 pub first-broken-number : (P : ℕ → Type 0) (rules : List Rule) (x : Refusal)
     → AllNumbers P rules → FirstBroken rules x → P (x .number)
 first-broken-number P rules x numbers h =
-    subst P (h .broken .numbered) (at-split P (h .before) (h .rule) (h .after) (subst (AllNumbers P) (h .splits) numbers))
+    subst P (h .broken .numbered) (first-broken-rule (λ r. P (r .number)) rules x numbers h)
 
 -- the run's input refusals have numbers below 42
 pub input-numbers : (s q : List ℕ) → AllNumbers (λ k. k < 42) (runChecks s q)
 unfolding runChecks modelForm choiceForm lengthRule versionRule formulaRule limitsRule threadRule activityRule maskRule
     choiceCounts rangeRule durationRule
-input-numbers s q = numbers-append (λ k. k < 42) (modelForm s) (choiceForm (model s) q) (omega arith) (omega arith)
+input-numbers s q = rules-append (λ r. r .number < 42) (modelForm s) (choiceForm (model s) q) (omega arith) (omega arith)
 
 -- the run's own have 42 or 43
 pub run-numbers : (m : Model) (q : Choice) → AllNumbers (λ k. (k ≡ 42) ⊎ (k ≡ 43)) (runRules m q)

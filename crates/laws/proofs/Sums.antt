@@ -2,6 +2,7 @@
 -- releases.
 -- Assumes nothing.
 use Prim.Native.Nat.{ℕ, zero, suc, _+_, _-_, _*_, _≤_, _<_, max, min}
+use native.Mathlib.Nat.{mul-suc}
 use native.Mathlib.Omega.{arith}
 use mathlib.Core.Logic.{⊎-elim}
 use mathlib.Core.Path.{_≡_, refl, ap, ap₂}
@@ -33,6 +34,25 @@ pub total-ext : (n : ℕ) (f g : ℕ → ℕ) → ((i : ℕ) → i < n → f i �
 unfolding total
 total-ext zero f g h = refl
 total-ext (suc n) f g h = ap₂ _+_ (total-ext n f g (λ i l. h i (omega arith))) (h n (omega arith))
+
+-- a sum of n terms, none above k
+pub total-bound : (n : ℕ) (f : ℕ → ℕ) (k : ℕ) → ((i : ℕ) → i < n → f i ≤ k) → total n f ≤ k * n
+unfolding total
+total-bound zero f k h = omega arith
+total-bound (suc n) f k h =
+    omega (arith, mul-suc k n, total-bound n f k (λ i l. h i (omega arith)), h n (omega arith))
+
+pub least-each : (n : ℕ) (f : ℕ → ℕ) (i : ℕ) → i < n → least n f ≤ f i
+unfolding least
+least-each zero f i h = absurd (omega arith)
+least-each (suc zero) f i h = omega (arith, ap f (only i h))
+  where
+    only : (i : ℕ) → i < 1 → i ≡ 0
+    only i h = omega arith
+least-each (suc (suc n)) f i h = ⊎-elim
+    (λ (l : i < suc n). omega (arith, least-each (suc n) f i l))
+    (λ (e : i ≡ suc n). omega (arith, ap f e))
+    (below-suc i (suc n) h)
 
 pub least-ext : (n : ℕ) (f g : ℕ → ℕ) → ((i : ℕ) → i < n → f i ≡ g i) → least n f ≡ least n g
 unfolding least

@@ -1,8 +1,8 @@
 -- A number's digits in a base: how many there are, and that they are those of specs/Lines.antt.
 -- Assumes nothing.
-use Prim.Native.Nat.{ℕ, zero, suc, _+_, _-_, _*_, _/_, _%_, _^_, _≤_, _<_}
+use Prim.Native.Nat.{ℕ, zero, suc, _+_, _-_, _/_, _%_, _≤_, _<_}
 use native.Mathlib.Decide.{decLt}
-use native.Mathlib.Nat.{pow-zero, pow-suc, mod-lt}
+use native.Mathlib.Nat.{mod-lt}
 use native.Mathlib.Numerals.{add-one}
 use native.Mathlib.Omega.{arith}
 use mathlib.Core.List.{List, [], _∷_, _++_}
@@ -11,6 +11,7 @@ use lib.ListN.{length, length-append}
 use borrow.Author.Tests.{lt-ltb, le-ltb}
 use Rattle.schedule.specs.Lines.{decimal, hex, hexDigit}
 use Rattle.laws.proofs.LinesLaws.{decimal-small, decimal-large}
+use Rattle.laws.proofs.LineLengths.{length-small, length-large}
 use Rattle.text.specs.Appended.{inBase}
 
 -- ---- how many
@@ -19,35 +20,6 @@ pub length-inBase : (base k n : ℕ) → length (inBase base k n) ≡ k
 unfolding inBase
 length-inBase base zero n = refl
 length-inBase base (suc k) n = simp length-append (omega (arith, length-inBase base k (n / base)))
-
-pub length-hex : (k w : ℕ) → length (hex k w) ≡ k
-unfolding hex
-length-hex zero w = refl
-length-hex (suc k) w = simp length-append (omega (arith, length-hex k (w / 16)))
-
-pub length-small : (n : ℕ) → n < 10 → length (decimal n) ≡ 1
-length-small n h = rw (decimal-small n h)
-
-pub length-large : (n : ℕ) → 10 ≤ n → length (decimal n) ≡ length (decimal (n / 10)) + 1
-length-large n h = rw (decimal-large n h) (length-append (decimal (n / 10)) ((48 + n % 10) ∷ []))
-
-pub length-positive : (n : ℕ) → 1 ≤ length (decimal n)
-length-positive n =
-    elim (decLt n 10) [
-      | yes s ↦ omega (arith, length-small n s)
-      | no s ↦ omega (arith, length-large n (omega arith))
-    ]
-
--- a number below 10 to the power k + 1 has at most k + 1 digits
-pub length-most : (k n : ℕ) → n < 10 ^ (suc k) → length (decimal n) ≤ suc k
-length-most zero n h = omega (arith, length-small n (omega (arith, pow-suc 10 0, pow-zero 10)))
-length-most (suc k) n h =
-    elim (decLt n 10) [
-      | yes s ↦ omega (arith, length-small n s)
-      | no s ↦
-          let b : n < 10 ^ (suc k) * 10 = rw pow-suc at h in
-          omega (arith, length-large n (omega arith), length-most k (n / 10) (omega arith))
-    ]
 
 -- ---- which
 

@@ -12,10 +12,11 @@ use Rattle.schedule.specs.Bounded.{rows, total}
 use Rattle.schedule.specs.Plan.{plan}
 use Rattle.schedule.specs.Lines.{decimal, three, shown, checkLines, tickLine, runLines}
 use Rattle.laws.proofs.Tests.{up-to}
+use Rattle.laws.proofs.LineLengths.{length-tick}
 use Rattle.text.specs.declared.Said.{Said}
 use Rattle.text.specs.Said.{verdictSaid, runSaid, plainName, strictName, runName, verdictWord, line}
 use Rattle.text.specs.Appended.{inBase, number, ticksOf, wordOf, tickText, tickLength}
-use Rattle.text.proofs.DigitLaws.{length-hex, hex-inBase, decimal-inBase}
+use Rattle.text.proofs.DigitLaws.{hex-inBase, decimal-inBase}
 
 -- ---- numbers
 
@@ -31,11 +32,6 @@ length-number n end = length-append (decimal n) (end ∷ [])
 pub three-parts : (a b c : ℕ) → three a b c ≡ number a 32 ++ (number b 32 ++ number c 10)
 unfolding three number
 three-parts a b c = simp append-assoc
-
-pub length-three : (a b c : ℕ)
-    → length (three a b c) ≡ length (decimal a) + length (decimal b) + length (decimal c) + 3
-length-three a b c =
-    simp (three-parts a b c, length-append, length-number) (omega arith)
 
 -- ---- lines
 
@@ -60,10 +56,6 @@ check-parts plain strict e d = simp (e, d, ← shown-said)
 pub tick-parts : (t w : ℕ) → tickLine t w ≡ number t 32 ++ (inBase 16 8 w ++ (10 ∷ []))
 unfolding tickLine number
 tick-parts t w = simp (append-assoc, hex-inBase)
-
-pub length-tick : (t w : ℕ) → length (tickLine t w) ≡ length (decimal t) + 10
-unfolding tickLine
-length-tick t w = simp (length-append, length-hex) (omega arith)
 
 pub rows-none : (f : ℕ → List ℕ) → rows 0 f ≡ []
 unfolding rows

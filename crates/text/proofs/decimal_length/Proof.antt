@@ -6,7 +6,7 @@ use native.Mathlib.Omega.{arith}
 use mathlib.Core.Path.{_≡_}
 use lib.ListN.{length}
 use Rattle.schedule.specs.Lines.{decimal}
-use Rattle.text.proofs.DigitLaws.{length-small, length-large, length-positive, length-most}
+use Rattle.laws.proofs.LineLengths.{length-small, length-large, length-positive, length-most}
 use Rattle.text.proofs.decimal_length.Statement.{statement}
 use Rattle.text.proofs.decimal_length.Tie as tie
 

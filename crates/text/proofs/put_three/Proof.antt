@@ -3,7 +3,8 @@
 use native.Mathlib.Omega.{arith}
 use borrow.Author.Needs.{needs}
 use Rattle.text.proofs.AppendLaws.{appended-both}
-use Rattle.text.proofs.TextLaws.{length-number, three-parts, length-three}
+use Rattle.text.proofs.TextLaws.{length-number, three-parts}
+use Rattle.laws.proofs.LineLengths.{length-three}
 use Rattle.text.proofs.put_three.Statement.{statement}
 use Rattle.text.proofs.put_three.Tie as tie
 

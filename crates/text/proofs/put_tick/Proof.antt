@@ -4,7 +4,8 @@ use native.Mathlib.Omega.{arith}
 use borrow.Author.Needs.{needs}
 use Rattle.text.proofs.AppendLaws.{appended-both}
 use Rattle.text.proofs.DigitLaws.{length-inBase}
-use Rattle.text.proofs.TextLaws.{length-number, tick-parts, length-tick}
+use Rattle.text.proofs.TextLaws.{length-number, tick-parts}
+use Rattle.laws.proofs.LineLengths.{length-tick}
 use Rattle.text.proofs.put_tick.Statement.{statement}
 use Rattle.text.proofs.put_tick.Tie as tie
 

@@ -2,7 +2,7 @@
 -- Assumes nothing.
 use native.Mathlib.Omega.{arith}
 use borrow.Author.Needs.{needs}
-use Rattle.text.proofs.TextLaws.{length-three}
+use Rattle.laws.proofs.LineLengths.{length-three}
 use Rattle.text.proofs.three_length.Statement.{statement}
 use Rattle.text.proofs.three_length.Tie as tie
 

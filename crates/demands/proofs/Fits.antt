@@ -1,0 +1,299 @@
+-- The printed text fits. For every input gridcheck's two lines have at most 97 bytes, and gridrun's page has at most
+-- 57,390: 14 for each of 4096 ticks and 46 for the last line. So the programs' arrays hold them.
+-- Assumes nothing.
+use Prim.Native.Nat.{ℕ, _^_, _≤_}
+use native.Mathlib.Decide.{decLt}
+use native.Mathlib.Nat.{mul-le-mul}
+use native.Mathlib.Omega.{arith}
+use mathlib.Core.List.{List, [], _∷_, _++_}
+use mathlib.Core.Logic.{⊎-elim}
+use mathlib.Core.Path.{_≡_, refl, ap, subst, _∙_}
+use lib.ListN.{length, length-append, length-replicate, replicate}
+use Rattle.schedule.specs.Bounded.{bit, ones}
+use Rattle.schedule.specs.Fields.{Bytes}
+use Rattle.schedule.specs.Rule.{Rule, Refusal, AllHold, FirstBroken}
+use Rattle.schedule.specs.Model.{
+  Model,
+  model,
+  modelForm,
+  modelLength,
+  Within,
+  lengthRule,
+  versionRule,
+  formulaRule,
+  limitsRule,
+  threadRule,
+  activityRule,
+  maskRule,
+}
+use Rattle.schedule.specs.Choice.{Choice, choice, choiceForm, choiceCounts, rangeRule, durationRule}
+use Rattle.schedule.specs.Plan.{Plan, plan, planForm, planCounts, wordRule}
+use Rattle.schedule.specs.Checks.{
+  plainRules,
+  strictRules,
+  deadlineRule,
+  rule21,
+  rule22,
+  rule23,
+  rule24,
+  rule25,
+  rule26,
+  rule27,
+  rule28,
+  rule29,
+  rule30,
+  rule31,
+}
+use Rattle.schedule.specs.Answers.{
+  Answer,
+  accepted,
+  refused,
+  Figures,
+  figures,
+  plainChecks,
+  strictChecks,
+  plainVerdict,
+  strictVerdict,
+  machinePlan,
+  owedRule,
+  runRules,
+  Written,
+  lengthNeeded,
+  runChecks,
+  runAnswer,
+}
+use Rattle.schedule.specs.Streams.{taken, firstRecord, secondRecord}
+use Rattle.schedule.specs.Lines.{runRoom, runLines, gridcheck, gridrun}
+use Rattle.laws.proofs.Counting.{count-le}
+use Rattle.laws.proofs.Sums.{greatest-bound, total-bound}
+use Rattle.laws.proofs.FirstBreak.{AllSound, some-iff, append-some, sound-append, hold-append, hold-or-broken}
+use Rattle.laws.proofs.Sound.{plainChecks-sound, strictChecks-sound, runChecks-sound}
+use Rattle.laws.proofs.RuleNumbers.{AllRules, rules-append, first-broken-rule}
+use Rattle.laws.proofs.LinesLaws.{second-bytes}
+use Rattle.laws.proofs.LineLengths.{
+  Short,
+  ShortFigures,
+  ShortRefusal,
+  ShortAnswer,
+  shown-most,
+  check-most,
+  length-ticks,
+}
+use Rattle.demands.proofs.Demand2.{
+  plain-accepted,
+  plain-refused,
+  strict-refused,
+  plain-keeps,
+  strict-then-plain,
+  run-input,
+  run-input-refused,
+  run-short-buffer,
+  run-refused,
+}
+use Rattle.demands.proofs.Demand3.{demand-3}
+use Rattle.demands.proofs.Page.{checked, roomy}
+
+-- ---- refusals
+
+-- a rule whose number and places have at most 10 digits
+abbrev Narrow : Rule → Type 0
+Narrow r = Short (r .number) × ((r .rows ≤ 10 ^ 10) × (r .columns ≤ 10 ^ 10))
+
+-- so has its first break
+short-break : (rules : List Rule) (x : Refusal) → AllRules Narrow rules → FirstBroken rules x → ShortRefusal x
+short-break rules x narrow h =
+    let rule = first-broken-rule Narrow rules x narrow h in
+    let at = h .broken in
+    omega (arith, at .numbered, rule .0, at .in-row, rule .1 .0, at .in-column, rule .1 .1)
+
+-- rules 1 to 3, which every list begins with, and the other form rules of a model
+abbrev sizing : List ℕ → List Rule
+sizing s = lengthRule 1 10 s ∷ versionRule 2 s ∷ limitsRule (model s) ∷ []
+
+abbrev rowing : List ℕ → List Rule
+rowing s =
+    formulaRule 4 (modelLength (model s .threads) (model s .activities)) s
+    ∷ threadRule (model s) ∷ activityRule (model s) ∷ maskRule (model s) ∷ []
+
+-- what rule 3 says
+abbrev Limited : Model → Type 0
+Limited m = (Within 1 8 (m .cores) × Within 1 8 (m .threads)) × (Within 1 32 (m .activities) × Within 1 4096 (m .horizon))
+
+limited : (s : List ℕ) → AllHold (sizing s) → Limited (model s)
+unfolding limitsRule
+limited s h = h .1 .1 .0 0 0 (omega arith) (omega arith)
+
+sizing-narrow : (s : List ℕ) → AllRules Narrow (sizing s)
+unfolding lengthRule versionRule limitsRule
+sizing-narrow s = omega arith
+
+-- a refusal by a list that begins with rules 1 to 3, where the others are narrow within the limits
+short-refusal : (s : List ℕ) (rest : List Rule) (x : Refusal) → AllSound (sizing s ++ rest)
+    → (Limited (model s) → AllRules Narrow rest) → FirstBroken (sizing s ++ rest) x → ShortRefusal x
+short-refusal s rest x sound narrow h =
+    let sounds = sound-append (sizing s) rest .0 sound in
+    ⊎-elim
+    (λ (holds : AllHold (sizing s)).
+    short-break (sizing s ++ rest) x
+    (rules-append Narrow (sizing s) rest (sizing-narrow s) (narrow (limited s holds))) h)
+    (λ (b : (y : Refusal) × FirstBroken (sizing s) y).
+    let first = append-some (sizing s) rest (b .0) (some-iff (sizing s) (b .0) (sounds .0) .1 (b .1)) in
+    let found = some-iff (sizing s ++ rest) x sound .1 h in
+    let same : b .0 ≡ x = cc in
+    subst ShortRefusal same (short-break (sizing s) (b .0) (sizing-narrow s) (b .1)))
+    (hold-or-broken (sizing s) (sounds .0))
+
+-- within the limits every other rule is narrow
+rowing-narrow : (s : List ℕ) → Limited (model s) → AllRules Narrow (rowing s)
+unfolding formulaRule threadRule activityRule maskRule
+rowing-narrow s l = omega arith
+
+plan-narrow : (m : Model) (r : List ℕ) → Limited m → AllRules Narrow (planForm m r)
+unfolding planForm lengthRule versionRule formulaRule planCounts rangeRule wordRule
+plan-narrow m r l = omega arith
+
+plain-narrow : (m : Model) (p : Plan) → Limited m → AllRules Narrow (plainRules m p)
+unfolding plainRules rule21 rule22 rule23 rule24 rule25 rule26 rule27 rule28 rule29 deadlineRule
+plain-narrow m p l = omega arith
+
+strict-narrow : (m : Model) (p : Plan) → Limited m → AllRules Narrow (strictRules m p)
+unfolding strictRules rule30 rule31
+strict-narrow m p l = rules-append Narrow (plainRules m p) _ (plain-narrow m p l) (omega arith)
+
+choice-narrow : (m : Model) (q : List ℕ) → Limited m → AllRules Narrow (choiceForm m q)
+unfolding choiceForm lengthRule versionRule formulaRule choiceCounts rangeRule durationRule
+choice-narrow m q l = omega arith
+
+run-narrow : (m : Model) (q : Choice) → Limited m → AllRules Narrow (runRules m q)
+unfolding runRules owedRule deadlineRule
+run-narrow m q l = omega arith
+
+-- ---- figures
+
+form-limited : (s : List ℕ) → AllHold (modelForm s) → Limited (model s)
+unfolding modelForm limitsRule
+form-limited s h = h .1 .1 .0 0 0 (omega arith) (omega arith)
+
+-- what the plain check passes has figures below a hundred and fifty thousand
+pass-short : (s r : List ℕ) → AllHold (plainChecks s r) → ShortFigures (figures (model s) (plan r))
+unfolding plainChecks figures ones
+pass-short s r h =
+    let forms = hold-append (modelForm s) (planForm (model s) r ++ plainRules (model s) (plan r)) .0 h in
+    let rules = hold-append (planForm (model s) r) (plainRules (model s) (plan r)) .0 (forms .1) in
+    let l = form-limited s (forms .0) in
+    let keeps = plain-keeps (model s) (plan r) .0 (rules .1) in
+    let usage = total-bound (model s .horizon) (λ t. ones (plan r .word t)) 32 (λ t _. count-le 32 (bit (plan r .word t))) in
+    let capacity = mul-le-mul {n₁ = model s .cores} {m₁ = model s .horizon} {n₂ = 8} {m₂ = 4096} (l .0 .0 .1) (l .1 .1 .1) in
+    let last = greatest-bound (model s .activities) (plan r .end) (model s .horizon) (λ a k. keeps .window a k .inside) in
+    omega (arith, usage, capacity, last, l .1 .1 .1)
+
+-- ---- the checks
+
+-- a refusal by a model's form rules and what follows them
+behind-form : (s : List ℕ) (more : List Rule) (x : Refusal) → AllSound (modelForm s ++ more)
+    → (Limited (model s) → AllRules Narrow more) → FirstBroken (modelForm s ++ more) x → ShortRefusal x
+unfolding modelForm
+behind-form s more x sound narrow h =
+    short-refusal s (rowing s ++ more) x sound
+    (λ l. rules-append Narrow (rowing s) more (rowing-narrow s l) (narrow l)) h
+
+plain-short : (s r : List ℕ) → ShortAnswer (plainVerdict s r)
+unfolding plainChecks
+plain-short s r = by (plainVerdict s r) refl
+  where
+    by : (v : Answer Figures) → plainVerdict s r ≡ v → ShortAnswer v
+    by (accepted f) e = let pass = plain-accepted s r f .0 e in subst ShortFigures (pass .1) (pass-short s r (pass .0))
+    by (refused x) e =
+        behind-form s (planForm (model s) r ++ plainRules (model s) (plan r)) x (plainChecks-sound s r)
+        (λ l. rules-append Narrow (planForm (model s) r) (plainRules (model s) (plan r)) (plan-narrow (model s) r l) (plain-narrow (model s) (plan r) l))
+        (plain-refused s r x .0 e)
+
+strict-short : (s r : List ℕ) → ShortAnswer (strictVerdict s r)
+unfolding strictChecks
+strict-short s r = by (strictVerdict s r) refl
+  where
+    by : (v : Answer Figures) → strictVerdict s r ≡ v → ShortAnswer v
+    by (accepted f) e = subst ShortAnswer (strict-then-plain s r f e) (plain-short s r)
+    by (refused x) e =
+        behind-form s (planForm (model s) r ++ strictRules (model s) (plan r)) x (strictChecks-sound s r)
+        (λ l. rules-append Narrow (planForm (model s) r) (strictRules (model s) (plan r)) (plan-narrow (model s) r l) (strict-narrow (model s) (plan r) l))
+        (strict-refused s r x .0 e)
+
+-- gridcheck's two lines have at most 97 bytes
+pub gridcheck-fits : (input : List ℕ) → length (gridcheck input) ≤ 97
+unfolding gridcheck
+gridcheck-fits input =
+    let s = firstRecord (taken input) in
+    let r = secondRecord (taken input) in
+    check-most (plainVerdict s r) (strictVerdict s r) (plain-short s r) (strict-short s r)
+
+-- ---- the run
+
+-- what the run answers, without the plan's length, as it is printed
+abbrev ShortRun : Answer Written → Type 0
+ShortRun (accepted w) = ShortFigures (w .figures)
+ShortRun (refused x) = ShortRefusal x
+
+run-short : (s q : List ℕ) (room : ℕ) → Bytes q → ShortRun (runAnswer s q room)
+unfolding runChecks lengthNeeded
+run-short s q room bytes = by (runAnswer s q room) refl
+  where
+    -- a buffer with this room
+    zeros : List ℕ
+    zeros = replicate room 0
+
+    -- a run that succeeds answers the figures of a plan that passes the strict check
+    passed : (w : Written) → runAnswer s q (length zeros) ≡ accepted w → ShortFigures (w .figures)
+    passed w e =
+        let all = checked s q (length zeros) w e in
+        let both = hold-append (modelForm s) (choiceForm (model s) q) .0 all in
+        let single = demand-3 s q zeros bytes (both .0) (both .1) (roomy s q (length zeros) w e) in
+        subst ShortAnswer (single .strict w e .strict) (strict-short s _)
+
+    -- a run whose input passes refuses for want of room, or by 42 or 43
+    sent-back : (x : Refusal) → AllHold (runChecks s q) → runAnswer s q room ≡ refused x → ShortRefusal x
+    sent-back x all e =
+        let l = form-limited s (hold-append (modelForm s) (choiceForm (model s) q) .0 all .0) in
+        elim (decLt room (lengthNeeded (model s))) [
+          | yes short ↦
+              let room-wanted : Refusal = record { number = 41; A = lengthNeeded (model s); B = 0 } in
+              let answered = run-short-buffer s q room all short in
+              let same : room-wanted ≡ x = cc in
+              subst ShortRefusal same (omega arith)
+          | no enough ↦
+              short-break (runRules (model s) (choice q)) x (run-narrow (model s) (choice q) l)
+              (run-refused s q room x all (omega arith) .0 e)
+        ]
+
+    by : (v : Answer Written) → runAnswer s q room ≡ v → ShortRun v
+    by (accepted w) e = passed w (ap (runAnswer s q) (length-replicate room 0) ∙ e)
+    by (refused x) e =
+        ⊎-elim (λ all. sent-back x all e)
+        (λ b.
+        let answered = run-input-refused s q room (b .0) (b .1) in
+        let same : b .0 ≡ x = cc in
+        behind-form s (choiceForm (model s) q) x (runChecks-sound s q) (choice-narrow (model s) q)
+        (subst (FirstBroken (runChecks s q)) same (b .1)))
+        (run-input s q)
+
+-- gridrun's page has at most 57,390 bytes
+pub gridrun-fits : (input : List ℕ) → Bytes input → length (gridrun input) ≤ 57390
+unfolding gridrun runLines machinePlan runChecks
+gridrun-fits input bytes =
+    let s = firstRecord (taken input) in
+    let q = secondRecord (taken input) in
+    by s q (runAnswer s q runRoom) refl (run-short s q runRoom (second-bytes input bytes))
+  where
+    by : (s q : List ℕ) (v : Answer Written) → runAnswer s q runRoom ≡ v → ShortRun v
+        → length (runLines v (machinePlan (model s) (choice q))) ≤ 57390
+    by s q (accepted w) e h =
+        let all = checked s q runRoom w e in
+        let l = form-limited s (hold-append (modelForm s) (choiceForm (model s) q) .0 all .0) in
+        simp length-append
+        (omega (
+          arith,
+          l .1 .1 .1,
+          length-ticks (model s .horizon) (machinePlan (model s) (choice q) .word) (omega arith),
+          shown-most (accepted (w .figures)) h,
+        ))
+    by s q (refused x) e h = omega (arith, shown-most (refused x) h)

@@ -1,0 +1,21 @@
+-- What it is for a number to be efe of an activity, with quantifiers and nothing that computes.
+-- Assumes nothing.
+use Prim.Native.Nat.{ℕ, _+_, _≤_, _<_}
+use lib.Dec.{T}
+use Rattle.schedule.specs.Model.{Model, temporally, byData}
+use Rattle.schedule.specs.Plan.{Plan}
+use Rattle.schedule.specs.Checks.{countOf, efe}
+
+-- none of the numbers that efe(a) is the largest of is above x
+pub record NoneAbove (m : Model) (p : Plan) (a x : ℕ) : Type 0 where
+  -- "the thread's release"
+  pub release : p .release (m .thread a) ≤ x
+  -- "efe(b) + count(b) + delay(b) over temporal predecessors b"
+  pub temporal : (b : ℕ) → b < m .activities → T (temporally m b a) → efe m p b + countOf m p b + m .delay b ≤ x
+  -- "efe(b) + count(b) over data predecessors b"
+  pub by-data : (b : ℕ) → b < m .activities → T (byData m b a) → efe m p b + countOf m p b ≤ x
+
+-- "efe(a) is the largest of": none of them passes it, and no smaller number has that
+pub record Largest (m : Model) (p : Plan) (a : ℕ) : Type 0 where
+  pub above : NoneAbove m p a (efe m p a)
+  pub least : (x : ℕ) → NoneAbove m p a x → efe m p a ≤ x
