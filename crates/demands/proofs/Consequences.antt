@@ -34,7 +34,6 @@ use Rattle.schedule.specs.Answers.{
   MeetsForm,
   WellFormed,
   PassesTests,
-  HasChoices,
 }
 use Rattle.schedule.specs.Streams.{WordOrPast, word, past, orPast, viewRefusal, viewWord}
 use Rattle.laws.proofs.EfeLaws.{efe-equation, efe-release, efe-temporal, efe-data, efe-bound}
@@ -45,7 +44,7 @@ use Rattle.laws.proofs.Sums.{greatest-each, least-each}
 use Rattle.view.specs.Grid.{viewBytes, gridWord}
 use Rattle.view.proofs.GridLaws.{grid-gives}
 use Rattle.demands.specs.Efe.{Largest}
-use Rattle.demands.specs.Strict.{planWritten}
+use Rattle.demands.specs.Strict.{HasChoices, planWritten}
 use Rattle.demands.proofs.Demand2.{plain-accepted, plain-keeps, strict-breaks-rule, strict-passes-rules}
 use Rattle.demands.proofs.Demand3.{demand-3, back, settled-by, its-plan}
 use Rattle.demands.proofs.Page.{checked, roomy}

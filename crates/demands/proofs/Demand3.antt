@@ -18,7 +18,7 @@ use Rattle.schedule.specs.Plan.{plan, planForm, planBytes}
 use Rattle.schedule.specs.Machine.{machineWord, machineStart, machineEnd, machineOwes}
 use Rattle.schedule.specs.Checks.{deadlineRule}
 use Rattle.schedule.specs.Keeps.{KeepsStrict}
-use Rattle.schedule.specs.Answers.{accepted, Figures, figures, strictChecks, machinePlan, owedRule, runRules, Written, lengthNeeded, runChecks, runAnswer, MeetsForm, PassesTests, HasChoices}
+use Rattle.schedule.specs.Answers.{accepted, Figures, figures, strictChecks, machinePlan, owedRule, runRules, Written, lengthNeeded, runChecks, runAnswer}
 use Rattle.laws.proofs.FieldLaws.{field-lt}
 use Rattle.laws.proofs.PlanBytes.{Fits, ReadsBack, reads-back, length-planBytes, bytes-planBytes}
 use Rattle.laws.proofs.PlanForm.{form-says, written-form, parts-determine}
@@ -30,7 +30,7 @@ use Rattle.laws.proofs.MachineLaws.{runs, word-lt, ended}
 use Rattle.laws.proofs.Sums.{figures-ext}
 use Rattle.laws.proofs.Unique.{Beside, same-word, same-start, same-end, nothing-owed}
 use Rattle.laws.proofs.Exists.{Made, counted, keeps}
-use Rattle.demands.specs.Strict.{PassesWith, Passes, Succeeds, planWritten, SingleStrictPlan}
+use Rattle.demands.specs.Strict.{HasChoices, PassesWith, Passes, Succeeds, planWritten, SingleStrictPlan, Demand3}
 use Rattle.laws.proofs.Formed.{Formed, model-says, Chosen, choice-says}
 use Rattle.demands.proofs.Demand2.{
   strict-accepted,
@@ -244,6 +244,5 @@ module _ (s q : List ℕ) (q-bytes : Bytes q) (formed : AllHold (modelForm s))
     }
 
 -- Demand 3, whole.
-pub demand-3 : (s q buffer : List ℕ) → Bytes q → MeetsForm s → PassesTests s q
-    → lengthNeeded (model s) ≤ length buffer → SingleStrictPlan s q buffer
+pub demand-3 : Demand3
 demand-3 s q buffer q-bytes formed tested fits = proved s q q-bytes formed tested buffer fits

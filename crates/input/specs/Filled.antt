@@ -1,11 +1,23 @@
--- What a filled buffer's count is worth. Assumes nothing.
+-- What reading into a lent buffer says: how many bytes came, and that those behind them are the caller's old ones.
+-- Assumes nothing.
 use Prim.Native.Nat.{ℕ, _≤_}
 use mathlib.Core.List.{List}
-use lib.ListN.{length}
+use mathlib.Core.Path.{_≡_}
+use lib.ListN.{length, drop}
 use Rattle.input.specs.declared.Input.{Input}
 use Rattle.input.specs.declared.Input.the-variants.{Bytes, Failed}
 
--- the bytes that came stand at the front
-abbrev pub Within : Input → List ℕ → Type 0
-Within (Bytes n) xs = n ≤ length xs
-Within Failed xs = Unit {0}
+-- how many bytes came, before the end or before a read failed
+abbrev pub came : Input → ℕ
+came (Bytes n) = n
+came (Failed n) = n
+
+-- they stand within the buffer, and every byte behind them is as it was
+pub record Filled (r : Input) (old new : List ℕ) : Type 0 where
+  pub within : came r ≤ length old
+  pub behind : drop (came r) new ≡ drop (came r) old
+
+-- the same of bytes that came behind others
+pub record FilledFrom (done : ℕ) (r : Input) (old new : List ℕ) : Type 0 where
+  pub more : done ≤ came r
+  pub filled : Filled r old new

@@ -1,6 +1,6 @@
 -- What each call answers, and what it leaves in the lent buffer.
 -- Assumes nothing.
-use Prim.Native.Nat.{ℕ, _+_, _-_, _*_, _<_}
+use Prim.Native.Nat.{ℕ, _-_, _*_}
 use mathlib.Core.Bool.{_||_, cond}
 use mathlib.Core.List.{List, [], _∷_, _++_}
 use mathlib.Core.Option.{Option, some, none}
@@ -13,7 +13,7 @@ use Rattle.schedule.specs.Model.{Model, model, modelForm}
 use Rattle.schedule.specs.Choice.{Choice, choice, choiceForm}
 use Rattle.schedule.specs.Plan.{Plan, plan, planForm, planLength, planBytes}
 use Rattle.schedule.specs.Machine.{machineWord, machineStart, machineEnd, machineOwes}
-use Rattle.schedule.specs.Checks.{countOf, plainRules, strictRules, deadlineRule}
+use Rattle.schedule.specs.Checks.{plainRules, strictRules, deadlineRule}
 
 -- what a call answers: what a pass answers, or the refusal
 pub data Answer (F : Type 0) : Type 0 where
@@ -130,10 +130,3 @@ WellFormed s r = AllHold (planForm (model s) r)
 -- "a choice record that then passes 8 to 13 passes its tests"
 abbrev pub PassesTests : List ℕ → List ℕ → Type 0
 PassesTests s q = AllHold (choiceForm (model s) q)
-
--- "A plan has the choices of such a record when its releases and periods equal the record's and, for each activity a,
--- count(a) is the chosen duration of a"
-pub record HasChoices (m : Model) (q : Choice) (p : Plan) : Type 0 where
-  pub releases : (j : ℕ) → j < m .threads → p .release j ≡ q .release j
-  pub periods : (j : ℕ) → j < m .threads → p .period j ≡ q .period j
-  pub durations : (a : ℕ) → a < m .activities → countOf m p a ≡ q .duration a

@@ -1,61 +1,99 @@
--- `input::fill` meets its contract. What is filled lies within the buffer, which keeps its length; the measure
--- is what is left of it.
--- Assumes nothing.
 use borrow.Author.Needs.{needs}
-use Prim.Native.Nat.{_≤_, _-_}
+use Prim.Native.Nat.{_-_, _≤_}
+use native.Mathlib.Omega.{arith}
 use mathlib.Core.Path.{_≡_}
-use lib.ListN.{length}
+use lib.ListN.{length, drop}
+use Rattle.input.proofs.InputLaws.{bytes-le, filled-after, filled-told, filled-bytes, more-bytes}
 use Rattle.input.proofs.fill.Statement.{statement}
 use Rattle.input.proofs.fill.Tie as tie
+use Rattle.input.proofs.fill.Reads as reads
+use Rattle.input.proofs.fill.Lts as lts
+use Rattle.input.proofs.read_at.Reads as read-at-reads
+use Rattle.io.proofs.buffer.Reads as buffer-reads
 
 abbrev Inv-loop : tie.InvT-loop
-Inv-loop buf₀ done₀ buf done = (done ≤ length buf) × (length buf ≡ length buf₀)
+Inv-loop buf₀ chunk₀ done₀ buf chunk done =
+    (done ≤ length buf) × ((length buf ≡ length buf₀) × (drop done buf ≡ drop done buf₀))
 
 abbrev μ-loop : tie.MeasureT-loop
-μ-loop buf₀ done₀ buf done = length buf - done
+μ-loop buf₀ chunk₀ done₀ buf chunk done = length buf - done
 
+-- src/lib.rt:78:21
+buffer-requires : tie.Need-buffer-requires Inv-loop μ-loop
+buffer-requires c κs = search needs
+
+-- src/lib.rt:79:9
+slice-aggregate-chunk : tie.Need-slice-aggregate-chunk Inv-loop μ-loop
+slice-aggregate-chunk c = search needs
+
+-- src/lib.rt:81:5
 loop-holds : tie.Need-loop-holds Inv-loop μ-loop
 loop-holds c = search needs
 
-read-some-requires : tie.Need-read-some-requires Inv-loop μ-loop
-read-some-requires c κs = search needs
+-- src/lib.rt:82:13
+read-at-requires : tie.Need-read-at-requires Inv-loop μ-loop
+read-at-requires c κs = search needs
 
+-- src/lib.rt:83:26
+enum-known-read : tie.Need-enum-known-read Inv-loop μ-loop
+enum-known-read c = search needs
+
+-- src/lib.rt:84:13
+enum-told : tie.Need-enum-told Inv-loop μ-loop
+enum-told c = search needs
+
+-- src/lib.rt:84:13
 same-length : tie.Need-same-length Inv-loop μ-loop
 same-length c = search needs
 
+-- src/lib.rt:84:13
 returns : tie.Need-returns Inv-loop μ-loop
-returns c = search needs
+returns c =
+    let read = c .before .before .before .before .before .before .before in
+    let k = read .before .before .before .before .loop in
+    filled-after (k .done) (read .read-at .result) _ (k .buf) _ (k .inv .1 .0) (k .inv .1 .1) (read .read-at .ensures)
 
-sub-count : tie.Need-sub-count Inv-loop μ-loop
-sub-count c = search needs
-
-part-count-start : tie.Need-part-count-start Inv-loop μ-loop
-part-count-start c = search needs
-
-part-count-end : tie.Need-part-count-end Inv-loop μ-loop
-part-count-end c = search needs
-
-count-requires : tie.Need-count-requires Inv-loop μ-loop
-count-requires c κs = search needs
-
+-- src/lib.rt:87:13
 same-length-2 : tie.Need-same-length-2 Inv-loop μ-loop
 same-length-2 c = search needs
 
+-- src/lib.rt:87:13
 returns-2 : tie.Need-returns-2 Inv-loop μ-loop
-returns-2 c = search needs
+returns-2 c =
+    let read = c .before .before .before .before .before .before .before .before .before in
+    let k = read .before .before .before .before .loop in
+    filled-told (read .read-at .result) _ (c .before .before .before .read .given .1)
+    (filled-after (k .done) (read .read-at .result) _ (k .buf) _ (k .inv .1 .0) (k .inv .1 .1) (read .read-at .ensures))
 
-add-done : tie.Need-add-done Inv-loop μ-loop
-add-done c = search needs
-
+-- src/lib.rt:81:5
 loop-less : tie.Need-loop-less Inv-loop μ-loop
-loop-less c = search needs
+loop-less c =
+    let read = c .before .before .before .before .before .before .before .before in
+    let k = read .before .before .before .before .loop in
+    let told = c .before .before .read .given .1 in
+    omega (
+      arith,
+      read .read-at .kept,
+      more-bytes (read .read-at .result) _ (k .done) (k .buf) _ told (read .read-at .ensures),
+    )
 
+-- src/lib.rt:81:5
 loop-again : tie.Need-loop-again Inv-loop μ-loop
-loop-again c = search needs
+loop-again c =
+    let read = c .before .before .before .before .before .before .before .before in
+    let k = read .before .before .before .before .loop in
+    let told = c .before .before .read .given .1 in
+    let whole = filled-after (k .done) (read .read-at .result) _ (k .buf) _ (k .inv .1 .0) (k .inv .1 .1) (read .read-at .ensures) in
+    (
+      omega (arith, read .read-at .kept, bytes-le (read .read-at .result) _ _ _ whole told),
+      (omega (arith, read .read-at .kept), filled-bytes (read .read-at .result) _ _ _ told whole),
+    )
 
+-- src/lib.rt:75:1
 same-length-3 : tie.Need-same-length-3 Inv-loop μ-loop
 same-length-3 c = search needs
 
+-- src/lib.rt:75:1
 returns-3 : tie.Need-returns-3 Inv-loop μ-loop
 returns-3 c = search needs
 
@@ -65,17 +103,16 @@ fill-spec =
     (tie.spec
     Inv-loop
     μ-loop
+    buffer-requires
+    slice-aggregate-chunk
     loop-holds
-    read-some-requires
+    read-at-requires
+    enum-known-read
+    enum-told
     same-length
     returns
-    sub-count
-    part-count-start
-    part-count-end
-    count-requires
     same-length-2
     returns-2
-    add-done
     loop-less
     loop-again
     same-length-3
