@@ -60,6 +60,8 @@ def sized(bytes_):
     return number(4, len(bytes_)) + bytes_
 
 
+FREE = (0, 0)  # release 0 and no deadline
+
 # Model S
 
 S_THREADS = [thread(5, release=(0, 2)), thread(3, period=(8, 8))]

@@ -2,41 +2,46 @@
 
 The grids, figures and refusals are literals: the paper's own for model S, and otherwise worked out from its rules by hand.
 """
-from records import S, S_CHOICE, S_CHOSEN, S_DURATIONS, S_GRID, S_LATE, S_THREADS
-from records import activity, choice, model, plan, put, replaced, s_model, thread
+from records import FREE, S, S_CHOICE, S_CHOSEN, S_DURATIONS, S_GRID, S_LATE
+from records import activity, choice, model, plan, s_model, thread
 
-RUNS = []  # (model, choice, buffer before, lines, buffer afterwards, shows, answer)
-
-FREE = (0, 0)  # release 0 and no deadline
+RUNS = []  # (title of a part,) or (model, choice, buffer before, lines, buffer afterwards, shows, answer, misreading)
 
 
 def buffer(size, byte=0xAA):
     return bytes([byte]) * size
 
 
-def note(given, lines, after, shows, answer):
-    RUNS.append((*given, [*lines, f"run {answer}"], after, shows, answer))
+def part(title):
+    RUNS.append((title,))
 
 
-def accepted(shows, model_bytes, chosen, durations, before, grid, figures):
+def note(given, lines, after, shows, answer, misread):
+    """misread: a misreading of the paper under which the answer is another."""
+    RUNS.append((*given, [*lines, f"run {answer}"], after, shows, answer, misread))
+
+
+def accepted(shows, model_bytes, chosen, durations, before, grid, figures, misread=""):
     """The plan, then the bytes behind it as they were."""
     written = plan(chosen, grid)
     lines = [f"{t} {word:08x}" for t, word in enumerate(grid)]
     after = written + before[len(written) :]
-    note((model_bytes, choice(chosen, durations), before), lines, after, shows, f"accepted {figures}")
+    note((model_bytes, choice(chosen, durations), before), lines, after, shows, f"accepted {figures}", misread)
 
 
-def untouched(shows, model_bytes, choice_bytes, before, answer):
+def untouched(shows, model_bytes, choice_bytes, before, answer, misread=""):
     """The records or the buffer's length are refused: no byte changes."""
-    note((model_bytes, choice_bytes, before), [], before, shows, f"refused {answer}")
+    note((model_bytes, choice_bytes, before), [], before, shows, f"refused {answer}", misread)
 
 
-def cleared(shows, model_bytes, choice_bytes, before, length, answer):
+def cleared(shows, model_bytes, choice_bytes, before, length, answer, misread=""):
     """The run fails: zeros in place of a plan of that length, then the bytes behind it as they were."""
-    note((model_bytes, choice_bytes, before), [], bytes(length) + before[length:], shows, f"refused {answer}")
+    after = bytes(length) + before[length:]
+    note((model_bytes, choice_bytes, before), [], after, shows, f"refused {answer}", misread)
 
 
 def model_s():
+    part("model S")
     accepted("S with 61 bytes of room", S, S_CHOSEN, S_DURATIONS, buffer(61), S_GRID, "5 8 6")
     untouched("S with 60 bytes", S, S_CHOICE, buffer(60), "41 61 0")
     untouched("S with none", S, S_CHOICE, b"", "41 61 0")
@@ -53,7 +58,8 @@ def model_s():
     accepted("H 6: an end equals H", s_model(horizon=6), S_CHOSEN, S_DURATIONS, buffer(64), S_GRID[:6], "5 6 6")
 
 
-def late():
+def unfinished():
+    part("42 and 43")
     short = s_model(horizon=5)
     cleared("H 5", short, S_CHOICE, buffer(64), 49, "42 2 0")
     untouched("H 5 with a byte too few", short, S_CHOICE, buffer(48), "41 49 0")
@@ -66,7 +72,8 @@ def late():
             buffer(40), 37, "42 1 0")
 
 
-def order():
+def rank():
+    part("rank")
     level = s_model(threads=[thread(4, release=(0, 2)), thread(4, period=(8, 8))])
     accepted("S with both priorities 4: the lower number first", level, S_CHOSEN, S_DURATIONS, buffer(61), S_GRID, "5 8 6")
     three = model(2, 2, [thread(7)], [activity(0), activity(0), activity(0)])
@@ -81,6 +88,7 @@ def order():
 
 
 def ready():
+    part("ready")
     after_data = model(2, 3, [thread(1)], [activity(0, (2, 2)), activity(0, data=[0])])
     accepted("a predecessor that has not ended", after_data, [FREE], [2, 1], buffer(40), [1, 1, 2], "3 6 3")
     data = model(1, 3, [thread(1)], [activity(0, delay=65535), activity(0, data=[0])])
@@ -99,6 +107,7 @@ def ready():
 
 
 def largest():
+    part("the greatest sizes")
     full = model(8, 4096, [thread(5)] * 8, [activity(a % 8, (1, 4096)) for a in range(32)])
     grid = [255 << 8 * (t // 1024) for t in range(4096)]
     accepted("the largest model, all cores busy to the end", full, [FREE] * 8, [1024] * 32, buffer(16560), grid,
@@ -106,5 +115,4 @@ def largest():
     untouched("the same with a byte too few", full, choice([FREE] * 8, [1024] * 32), buffer(16552), "41 16553 0")
 
 
-for section in (model_s, late, order, ready, largest):
-    section()
+SECTIONS = (model_s, unfinished, rank, ready, largest)

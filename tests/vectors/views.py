@@ -39,5 +39,4 @@ def largest():
     view("the largest records: the horizon", full, plan([(0, 0)] * 8, grid), 4096)
 
 
-for section in (ticks, makings, largest):
-    section()
+SECTIONS = (ticks, makings, largest)

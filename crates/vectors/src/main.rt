@@ -1,10 +1,11 @@
-// Both checks, the run and the held view on the stored cases. CASES.md says what each case shows.
+// Both checks, the run, the held view and the splitter on the stored cases. CASES.md says what each case shows.
 //
 // data/cases holds how many cases of the checks there are, then for each its model and its plan; then how many cases of
 // the run, and for each its model, its choice and the buffer that is lent; then how many cases of the view, and for each
-// its model, its plan and the tick, each record behind its length. These numbers take 4 bytes each, the tick 8,
-// big-endian. For each case a line with its number, then the lines that gridcheck or gridrun prints of it; of a run also
-// the buffer afterwards, byte by byte in decimal; of a view what its making answers, and its word, in decimal, or past.
+// its model, its plan and the tick; then how many cases of the splitter, and for each its input, each record and input
+// behind its length. These numbers take 4 bytes each, the tick 8, big-endian. For each case a line with its number, then
+// the lines that gridcheck or gridrun prints of it; of a run also the buffer afterwards, byte by byte in decimal; of a
+// view what its making answers, and its word, in decimal, or past; of the splitter the bytes of the two records.
 use libc::STDOUT_FILENO;
 use numbers::form_number;
 use numbers::rule_number;
@@ -60,9 +61,9 @@ fn next_case(fd: i32, number: u32) {
     print_lines(&model[..m], &plan[..p]);
 }
 
-// Prints a buffer's bytes.
-fn print_bytes(bytes: &[u8]) {
-    io::write_all(STDOUT_FILENO, b"buffer");
+// Prints bytes behind their name.
+fn print_bytes(name: &[u8], bytes: &[u8]) {
+    io::write_all(STDOUT_FILENO, name);
     let mut i = 0;
     while i < bytes.len() {
         io::write_all(STDOUT_FILENO, b" ");
@@ -78,7 +79,7 @@ fn print_run(model: &[u8], choice: &[u8], out: &mut [u8]) {
     let mut lines = [0u8; 60000];
     let n = text::run_lines(&mut lines, answer, out);
     io::write_all(STDOUT_FILENO, &lines[..n]);
-    print_bytes(out);
+    print_bytes(b"buffer", out);
 }
 
 // Reads the next case of the run and prints its lines and its buffer.
@@ -150,6 +151,20 @@ fn next_view(fd: i32, number: u32) {
     print_word(view::word_at(&model[..m], &plan[..p], t));
 }
 
+// Prints the two records of an input.
+fn print_split(input: &[u8]) {
+    print_bytes(b"first", streams::first_record(input));
+    print_bytes(b"second", streams::second_record(input));
+}
+
+// Reads the next case of the splitter and prints its two records.
+fn next_split(fd: i32, number: u32) {
+    let mut input = [0u8; 256];
+    let n = next_record(fd, &mut input);
+    print_number(number);
+    print_split(&input[..n]);
+}
+
 fn all_cases(fd: i32) {
     let count = next_number(fd);
     let mut number = 0;
@@ -177,6 +192,15 @@ fn all_views(fd: i32) {
     }
 }
 
+fn all_splits(fd: i32) {
+    let count = next_number(fd);
+    let mut number = 0;
+    while number < count {
+        next_split(fd, number);
+        number += 1;
+    }
+}
+
 fn main() {
     let fd = os::open_read(b"cases");
     if fd < 0 {
@@ -186,5 +210,6 @@ fn main() {
     all_cases(fd);
     all_runs(fd);
     all_views(fd);
+    all_splits(fd);
     libc::close(fd);
 }

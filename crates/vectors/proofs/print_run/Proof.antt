@@ -23,6 +23,9 @@ slice-aggregate-write-all c = counts-printed _ _ _ _ (c .before .before .run-lin
 write-all-requires : tie.Need-write-all-requires
 write-all-requires c κs = search needs
 
+slice-aggregate-print-bytes : tie.Need-slice-aggregate-print-bytes
+slice-aggregate-print-bytes c = search needs
+
 print-bytes-requires : tie.Need-print-bytes-requires
 print-bytes-requires c κs = search needs
 
@@ -42,6 +45,7 @@ print-run-spec =
     array-share-prefix-lines
     slice-aggregate-write-all
     write-all-requires
+    slice-aggregate-print-bytes
     print-bytes-requires
     same-length
     returns)
