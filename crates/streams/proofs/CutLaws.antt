@@ -1,10 +1,12 @@
--- The cut lies within the bytes, and the parts before and behind it are the two records.
+-- A front is the first bytes; the cut lies within the bytes, and the parts before and behind it are the two records.
 -- Assumes nothing.
-use Prim.Native.Nat.{ℕ, _-_, _≤_}
+use Prim.Native.Nat.{ℕ, _-_, _≤_, min}
+use native.Mathlib.Decide.{decLe}
+use native.Mathlib.Nat.{min-eq-left, min-eq-right}
 use native.Mathlib.Omega.{arith}
 use mathlib.Core.Bool.{Bool, true, false, cond}
 use mathlib.Core.List.{List, []}
-use mathlib.Core.Path.{_≡_, refl, _∙_}
+use mathlib.Core.Path.{_≡_, refl, sym, ap, _∙_}
 use lib.Dec.{T, leb, leb→le}
 use lib.ListN.{length, take, drop, length-drop}
 use lib.Seq.{take-all, take-length, drop-length}
@@ -12,6 +14,17 @@ use Rattle.laws.proofs.Tests.{T-and}
 use Rattle.schedule.specs.Fields.{field}
 use Rattle.schedule.specs.Streams.{splits, firstRecord, secondRecord}
 use Rattle.streams.specs.Cut.{cut}
+
+-- no more than there are
+pub take-least : (n : ℕ) (s : List ℕ) → take (min n (length s)) s ≡ take n s
+take-least n s =
+    elim (decLe n (length s)) [
+      | yes l ↦ ap (λ (i : ℕ). take i s) (min-eq-left l)
+      | no l ↦
+          ap (λ (i : ℕ). take i s) (min-eq-right {m = n} (omega arith))
+          ∙ take-length s
+          ∙ sym (take-all n s (omega arith))
+    ]
 
 either-le : (b : Bool) (k n : ℕ) → (T b → k ≤ n) → cond b k n ≤ n
 either-le true k n h = h tt

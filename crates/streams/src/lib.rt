@@ -2,8 +2,25 @@
 // what was read, the first record, L bytes, is handed back as a part of the caller's bytes and the rest is the second.
 // Otherwise everything is the first and the second is empty". Nothing is copied.
 ghost use mathlib.Core.Path.{_≡_};
+ghost use Prim.Native.Nat.{min};
+ghost use lib.ListN.{take};
 ghost use Rattle.schedule.specs.Streams.{firstRecord, secondRecord};
 ghost use Rattle.streams.specs.Cut;
+
+// The smaller of two numbers.
+fn smaller(x: usize, y: usize) -> usize
+    ensures { λ r. ⌜ r ≡ min x y ⌝ }
+{
+    if x <= y { x } else { y }
+}
+
+// The first n bytes, or all where there are fewer.
+pub fn front(s: &[u8], n: usize) -> &[u8]
+    ensures { λ r. ⌜ now r ≡ take n (now (s .entry)) ⌝ }
+{
+    let end = smaller(n, s.len());
+    &s[0..end]
+}
 
 // Where the first record ends. L may be 0 to 3.
 fn cut(input: &[u8]) -> usize

@@ -1,60 +1,43 @@
+-- `input::read_at` meets its contract: what is stored lies behind what came before, and within the buffer. Assumes nothing.
 use borrow.Author.Needs.{needs}
 use native.Mathlib.Omega.{arith}
 use Rattle.input.proofs.InputLaws.{read-stored}
 use Rattle.input.proofs.read_at.Statement.{statement}
 use Rattle.input.proofs.read_at.Tie as tie
-use Rattle.input.proofs.read_at.Reads as reads
-use Rattle.input.proofs.read_at.Lts as lts
-use Rattle.input.proofs.read_up_to.Reads as read-up-to-reads
-use Rattle.input.proofs.smaller.Reads as smaller-reads
-use Rattle.input.proofs.store.Reads as store-reads
-use Rattle.io.proofs.count.Reads as count-reads
 
--- src/lib.rt:64:24
 sub-smaller : tie.Need-sub-smaller
 sub-smaller c = search needs
 
--- src/lib.rt:64:9
 smaller-requires : tie.Need-smaller-requires
 smaller-requires c κs = search needs
 
--- src/lib.rt:65:9
 read-up-to-requires : tie.Need-read-up-to-requires
 read-up-to-requires c κs = search needs
 
--- src/lib.rt:67:9
 same-length : tie.Need-same-length
 same-length c = search needs
 
--- src/lib.rt:67:9
 returns : tie.Need-returns
 returns c = search needs
 
--- src/lib.rt:69:24
 count-requires : tie.Need-count-requires
 count-requires c κs = search needs
 
--- src/lib.rt:69:9
 smaller-requires-2 : tie.Need-smaller-requires-2
 smaller-requires-2 c κs = search needs
 
--- src/lib.rt:70:5
 store-requires : tie.Need-store-requires
 store-requires c κs = search needs
 
--- src/lib.rt:71:18
 add-t8 : tie.Need-add-t8
 add-t8 c = search needs
 
--- src/lib.rt:60:1
 same-length-2 : tie.Need-same-length-2
 same-length-2 c = search needs
 
--- src/lib.rt:60:1
 same-length-3 : tie.Need-same-length-3
 same-length-3 c = search needs
 
--- src/lib.rt:60:1
 returns-2 : tie.Need-returns-2
 returns-2 c =
     let k = c .before .before .before .before .before in

@@ -1,3 +1,5 @@
+-- `input::store` meets its contract. The loop's invariant: so many bytes are pasted. The measure is what is left of them.
+-- Assumes nothing.
 use borrow.Author.Needs.{needs}
 use Prim.Native.Nat.{_+_, _-_, _≤_, _<_}
 use native.Mathlib.Omega.{arith}
@@ -7,8 +9,6 @@ use lib.Seq.{paste, paste-zero}
 use Rattle.input.proofs.InputLaws.{stored-next, stored-all}
 use Rattle.input.proofs.store.Statement.{statement}
 use Rattle.input.proofs.store.Tie as tie
-use Rattle.input.proofs.store.Reads as reads
-use Rattle.input.proofs.store.Lts as lts
 
 abbrev Inv-loop : tie.InvT-loop
 Inv-loop buf₀ at chunk n i₀ buf i = (i ≤ n) × ((length buf ≡ length buf₀) × (buf ≡ paste buf₀ at chunk i))
@@ -16,38 +16,30 @@ Inv-loop buf₀ at chunk n i₀ buf i = (i ≤ n) × ((length buf ≡ length buf
 abbrev μ-loop : tie.MeasureT-loop
 μ-loop buf₀ at chunk n i₀ buf i = n - i
 
--- src/lib.rt:46:5
 loop-holds : tie.Need-loop-holds Inv-loop μ-loop
 loop-holds c = (omega arith, (refl, paste-zero (c .args .buf .now) (c .args .at) (c .args .chunk .now)))
 
--- src/lib.rt:47:23
 shared-slice-read-buf : tie.Need-shared-slice-read-buf Inv-loop μ-loop
 shared-slice-read-buf c = search needs
 
--- src/lib.rt:47:13
 add-buf : tie.Need-add-buf Inv-loop μ-loop
 add-buf c = search needs
 
--- src/lib.rt:47:9
 slice-write-buf : tie.Need-slice-write-buf Inv-loop μ-loop
 slice-write-buf c = search needs
 
--- src/lib.rt:48:9
 add-i : tie.Need-add-i Inv-loop μ-loop
 add-i c = search needs
 
--- src/lib.rt:46:5
 loop-less : tie.Need-loop-less Inv-loop μ-loop
 loop-less c = search needs
 
--- src/lib.rt:46:5
 loop-again : tie.Need-loop-again Inv-loop μ-loop
 loop-again c =
     let x = c .before .before .before .args in
     let k = c .before .before .loop in
     let inside : k .i < length (x .chunk .now) = omega (arith, c .before .before .before .pre .1) in
-    let fits : x .at + k .i < length (x .buf .now) = omega (arith, c .before .before .before .pre .0) in
-    (
+    let fits : x .at + k .i < length (x .buf .now) = omega (arith, c .before .before .before .pre .0) in (
       omega arith,
       (
         simp length-set (k .inv .1 .0),
@@ -55,11 +47,9 @@ loop-again c =
       ),
     )
 
--- src/lib.rt:41:1
 same-length : tie.Need-same-length Inv-loop μ-loop
 same-length c = search needs
 
--- src/lib.rt:41:1
 returns : tie.Need-returns Inv-loop μ-loop
 returns c =
     let x = c .before .before .args in
