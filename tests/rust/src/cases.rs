@@ -1,14 +1,18 @@
-//! Pairs of records for the comparison: sound ones, damaged ones, and plans that leave the rules in chosen places.
+//! Pairs of records for the comparison: sound ones, damaged ones, and plans that leave the rules in chosen places. A model
+//! stands with a plan for the checks or with a choice for the run; a few pairs have the wrong one of the two.
 
 use crate::random::Random;
 use crate::records::{set_length, ActivityRow, Choice, Model, Plan, ThreadRow};
 
-/// A pair of records and the buffer that is lent to the run, as it is before the call.
+/// A pair of records, and the calls that it is for.
 pub struct Case {
     pub kind: &'static str,
     pub model: Vec<u8>,
     pub second: Vec<u8>,
-    pub buffer: Vec<u8>,
+    /// Whether the two checks are asked.
+    pub checked: bool,
+    /// The buffer that is lent to the run, as it is before the call; none where the run is not asked.
+    pub buffer: Option<Vec<u8>>,
 }
 
 type Maker = fn(&mut Random) -> Case;
@@ -16,21 +20,23 @@ type Maker = fn(&mut Random) -> Case;
 /// Each kind of case with its share.
 const KINDS: &[(usize, &str, Maker)] = &[
     (2, "random bytes", random_bytes),
+    (2, "the other record", other_record),
     (10, "damaged model", damaged_model),
-    (6, "damaged choice", damaged_choice),
-    (6, "damaged plan", damaged_plan),
-    (10, "run", sound_run),
-    (5, "late run", late_run),
-    (4, "owed run", owed_run),
-    (8, "plan of the run", sound_plan),
-    (6, "moved tick", moved_tick),
-    (4, "exchanged activities", exchanged_activities),
-    (3, "exchanged ticks", exchanged_ticks),
-    (5, "nudged rows", nudged_rows),
-    (3, "flipped bits", flipped_bits),
-    (4, "idle tick", idle_tick),
-    (2, "other duration", other_duration),
-    (3, "late plan", late_plan),
+    (10, "damaged choice", damaged_choice),
+    (7, "damaged plan", damaged_plan),
+    (12, "run", sound_run),
+    (8, "late run", late_run),
+    (6, "owed run", owed_run),
+    (6, "plan of the run", sound_plan),
+    (6, "moved tick", |random| altered(random, &[moved_tick])),
+    (4, "exchanged activities", |random| altered(random, &[exchanged_activities])),
+    (3, "exchanged ticks", |random| altered(random, &[exchanged_ticks])),
+    (5, "nudged rows", |random| altered(random, &[nudged_rows])),
+    (3, "flipped bits", |random| altered(random, &[flipped_bits])),
+    (4, "idle tick", |random| altered(random, &[idle_tick])),
+    (2, "other durations", |random| altered(random, &[other_durations])),
+    (3, "late plan", |random| altered(random, &[shorter_periods])),
+    (6, "two alterations", two_alterations),
     (3, "temporal precedence ignored", temporal_ignored),
     (3, "data dependency ignored", data_ignored),
     (3, "release ignored", release_ignored),
@@ -264,14 +270,23 @@ fn buffer(random: &mut Random, length: usize) -> Vec<u8> {
 }
 
 fn run_case(random: &mut Random, model: &Model, choice: &Choice) -> Case {
-    let buffer = buffer(random, model.plan_length());
-    Case { kind: "", model: model.bytes(), second: choice.bytes(), buffer }
+    let buffer = Some(buffer(random, model.plan_length()));
+    Case { kind: "", model: model.bytes(), second: choice.bytes(), checked: false, buffer }
 }
 
-fn plan_case(random: &mut Random, page: &Page) -> Case {
-    let length = random.below(40);
-    let buffer = random.bytes(length);
-    Case { kind: "", model: page.model.bytes(), second: page.plan.bytes(), buffer }
+fn plan_case(page: &Page) -> Case {
+    Case { kind: "", model: page.model.bytes(), second: page.plan.bytes(), checked: true, buffer: None }
+}
+
+/// A plan where the run wants a choice, or a choice where the checks want a plan; all three calls are asked.
+fn other_record(random: &mut Random) -> Case {
+    let (page, mut case) = sound_case(random);
+    if random.one_in(4) {
+        damage_second_head(random, &mut case.second);
+    }
+    case.checked = true;
+    case.buffer = Some(buffer(random, page.model.plan_length()));
+    case
 }
 
 // Runs
@@ -302,8 +317,36 @@ fn owed_run(random: &mut Random) -> Case {
 // Plans
 
 fn sound_plan(random: &mut Random) -> Case {
-    let page = page(random, no_habits);
-    plan_case(random, &page)
+    plan_case(&page(random, no_habits))
+}
+
+type Alteration = fn(&mut Random, &mut Page);
+
+/// Each alteration of a plan. One that changes the words mostly takes the rows from them again, so the rows come last.
+const ALTERATIONS: &[Alteration] = &[
+    moved_tick,
+    exchanged_activities,
+    exchanged_ticks,
+    flipped_bits,
+    idle_tick,
+    shorter_periods,
+    other_durations,
+    nudged_rows,
+];
+
+/// The plan of the run, altered.
+fn altered(random: &mut Random, alterations: &[Alteration]) -> Case {
+    let mut page = page(random, no_habits);
+    for alteration in alterations {
+        alteration(random, &mut page);
+    }
+    plan_case(&page)
+}
+
+fn two_alterations(random: &mut Random) -> Case {
+    let later = random.below(ALTERATIONS.len());
+    let earlier = random.within(0, later);
+    altered(random, &[ALTERATIONS[earlier], ALTERATIONS[later]])
 }
 
 /// Takes the rows from the words again, but for one time in eight.
@@ -314,8 +357,7 @@ fn settle(random: &mut Random, page: &mut Page) {
     }
 }
 
-fn moved_tick(random: &mut Random) -> Case {
-    let mut page = page(random, no_habits);
+fn moved_tick(random: &mut Random, page: &mut Page) {
     let a = random.below(page.plan.rows.len());
     let words = &mut page.plan.words;
     let from: Vec<usize> = (0..words.len()).filter(|&t| words[t] >> a & 1 == 1).collect();
@@ -331,12 +373,10 @@ fn moved_tick(random: &mut Random) -> Case {
         words[from] &= !(1 << a);
         words[to] |= 1 << a;
     }
-    settle(random, &mut page);
-    plan_case(random, &page)
+    settle(random, page);
 }
 
-fn exchanged_activities(random: &mut Random) -> Case {
-    let mut page = page(random, no_habits);
+fn exchanged_activities(random: &mut Random, page: &mut Page) {
     let a = random.below(page.plan.rows.len());
     let b = random.below(page.plan.rows.len());
     let from = if random.one_in(2) { 0 } else { random.below(page.plan.words.len()) };
@@ -344,21 +384,17 @@ fn exchanged_activities(random: &mut Random) -> Case {
         let bits = (*word >> a & 1, *word >> b & 1);
         *word = *word & !(1 << a) & !(1 << b) | bits.0 << b | bits.1 << a;
     }
-    settle(random, &mut page);
-    plan_case(random, &page)
+    settle(random, page);
 }
 
-fn exchanged_ticks(random: &mut Random) -> Case {
-    let mut page = page(random, no_habits);
+fn exchanged_ticks(random: &mut Random, page: &mut Page) {
     let s = random.below(page.plan.words.len());
     let t = if random.one_in(2) { random.below(page.plan.words.len()) } else { (s + 1) % page.plan.words.len() };
     page.plan.words.swap(s, t);
-    settle(random, &mut page);
-    plan_case(random, &page)
+    settle(random, page);
 }
 
-fn nudged_rows(random: &mut Random) -> Case {
-    let mut page = page(random, no_habits);
+fn nudged_rows(random: &mut Random, page: &mut Page) {
     let horizon = page.model.horizon;
     for _ in 0..random.within(1, 2) {
         let a = random.below(page.plan.rows.len());
@@ -379,48 +415,39 @@ fn nudged_rows(random: &mut Random) -> Case {
         *release = release.wrapping_add(random.pick(&[0, 1, 65535]));
         *period = period.wrapping_add(random.pick(&[0, 1, 65535]));
     }
-    plan_case(random, &page)
 }
 
-fn flipped_bits(random: &mut Random) -> Case {
-    let mut page = page(random, no_habits);
+fn flipped_bits(random: &mut Random, page: &mut Page) {
     for _ in 0..random.within(1, 3) {
         let t = random.below(page.plan.words.len());
         page.plan.words[t] ^= 1 << random.below(page.plan.rows.len());
     }
-    settle(random, &mut page);
-    plan_case(random, &page)
+    settle(random, page);
 }
 
-fn idle_tick(random: &mut Random) -> Case {
-    let mut page = page(random, no_habits);
+fn idle_tick(random: &mut Random, page: &mut Page) {
     if page.model.horizon < 4096 {
         page.model.horizon += 1;
         let t = random.below(page.plan.words.len());
         let idle = random.pick(&[0, 0, page.plan.words[t]]);
         page.plan.words.insert(t, idle);
     }
-    settle(random, &mut page);
-    plan_case(random, &page)
+    settle(random, page);
 }
 
-fn other_duration(random: &mut Random) -> Case {
-    let mut page = page(random, no_habits);
+fn other_durations(random: &mut Random, page: &mut Page) {
     for _ in 0..random.within(1, 2) {
         let a = random.below(page.plan.rows.len());
         let count = page.choice.durations[a];
         page.model.activities[a].duration =
             if count > 1 && random.one_in(2) { (1, count - 1) } else { (count + 1, count + 2) };
     }
-    plan_case(random, &page)
 }
 
-fn late_plan(random: &mut Random) -> Case {
-    let mut page = page(random, no_habits);
+fn shorter_periods(random: &mut Random, page: &mut Page) {
     let ends: Vec<usize> = page.plan.rows.iter().map(|row| row.1.into()).collect();
     set_periods(random, &mut page.model, &mut page.choice, &ends, 2);
     page.plan.threads = page.choice.threads.clone();
-    plan_case(random, &page)
 }
 
 fn temporal_ignored(random: &mut Random) -> Case {
@@ -428,22 +455,22 @@ fn temporal_ignored(random: &mut Random) -> Case {
         0 => Habits { ignores_temporal: true, ..Habits::default() },
         _ => Habits { ignores_delay: true, ..Habits::default() },
     });
-    plan_case(random, &page)
+    plan_case(&page)
 }
 
 fn data_ignored(random: &mut Random) -> Case {
     let page = page(random, |_, _| Habits { ignores_data: true, ..Habits::default() });
-    plan_case(random, &page)
+    plan_case(&page)
 }
 
 fn release_ignored(random: &mut Random) -> Case {
     let page = page(random, |_, _| Habits { ignores_release: true, ..Habits::default() });
-    plan_case(random, &page)
+    plan_case(&page)
 }
 
 fn more_cores(random: &mut Random) -> Case {
     let page = page(random, |random, _| Habits { more_cores: random.within(1, 3), ..Habits::default() });
-    plan_case(random, &page)
+    plan_case(&page)
 }
 
 fn any_rank(random: &mut Random, model: &Model) -> Option<Vec<usize>> {
@@ -452,17 +479,17 @@ fn any_rank(random: &mut Random, model: &Model) -> Option<Vec<usize>> {
 
 fn other_priorities(random: &mut Random) -> Case {
     let page = page(random, |random, model| Habits { rank: any_rank(random, model), ..Habits::default() });
-    plan_case(random, &page)
+    plan_case(&page)
 }
 
 fn ties_to_higher(random: &mut Random) -> Case {
     let page = page(random, |_, _| Habits { ties_to_higher: true, ..Habits::default() });
-    plan_case(random, &page)
+    plan_case(&page)
 }
 
 fn lazy(random: &mut Random) -> Case {
     let page = page(random, |random, _| Habits { lazy: random.pick(&[2, 4, 10]), ..Habits::default() });
-    plan_case(random, &page)
+    plan_case(&page)
 }
 
 fn several_habits(random: &mut Random) -> Case {
@@ -476,7 +503,7 @@ fn several_habits(random: &mut Random) -> Case {
         ties_to_higher: random.one_in(3),
         lazy: random.pick(&[0, 0, 4]),
     });
-    plan_case(random, &page)
+    plan_case(&page)
 }
 
 // Damaged records
@@ -500,28 +527,24 @@ fn random_bytes(random: &mut Random) -> Case {
         set_length(&mut second);
     }
     let length = random.below(60);
-    let buffer = random.bytes(length);
-    Case { kind: "", model, second, buffer }
+    let buffer = Some(random.bytes(length));
+    Case { kind: "", model, second, checked: true, buffer }
 }
 
 /// A sound page as a run or as a plan.
 fn sound_case(random: &mut Random) -> (Page, Case) {
     let page = page(random, no_habits);
-    let case = if random.one_in(2) { run_case(random, &page.model, &page.choice) } else { plan_case(random, &page) };
+    let case = if random.one_in(2) { run_case(random, &page.model, &page.choice) } else { plan_case(&page) };
     (page, case)
 }
 
 fn damaged_model(random: &mut Random) -> Case {
     let (page, mut case) = sound_case(random);
-    let mut number = random.within(1, 7);
-    loop {
+    for _ in 0..random.pick(&[1, 1, 2, 3]) {
+        let number = random.within(1, 7);
         damage_model(random, number, &page.model, &mut case.model);
-        if !random.one_in(3) {
-            break;
-        }
-        number = random.within(1, 7);
     }
-    match random.below(8) {
+    match random.below(6) {
         0 => case.second.clear(),
         1 => damage_second_head(random, &mut case.second),
         _ => {}
@@ -602,15 +625,22 @@ fn resize_with_length(random: &mut Random, bytes: &mut Vec<u8>, least: usize) {
     set_length(bytes);
 }
 
+/// Breaks one or two of 8 to 11, most of the time.
 fn damage_second_head(random: &mut Random, bytes: &mut Vec<u8>) {
-    match random.below(4) {
-        0 => damage_length(random, bytes),
-        1 => bytes[4] = random.pick(&[0, 2, 255]),
-        2 => {
-            let at = random.within(5, 8);
-            bytes[at] = bytes[at].wrapping_add(random.pick(&[1, 255, 8]));
+    for _ in 0..random.within(1, 2) {
+        // The first damage may have left too few bytes.
+        if bytes.len() < 9 {
+            return;
         }
-        _ => resize_with_length(random, bytes, 9),
+        match random.below(4) {
+            0 => damage_length(random, bytes),
+            1 => bytes[4] = random.pick(&[0, 2, 255]),
+            2 => {
+                let at = random.within(5, 8);
+                bytes[at] = bytes[at].wrapping_add(random.pick(&[1, 255, 8]));
+            }
+            _ => resize_with_length(random, bytes, 9),
+        }
     }
 }
 
@@ -630,20 +660,29 @@ fn damage_chosen(random: &mut Random, model: &Model, threads: &mut [(u16, u16)])
     }
 }
 
+/// What of a second record is damaged: head, thread rows, what stands behind them; one or two of the three.
+fn damaged_parts(random: &mut Random) -> [bool; 3] {
+    let mut parts = [false; 3];
+    for _ in 0..random.within(1, 2) {
+        parts[random.below(3)] = true;
+    }
+    parts
+}
+
 fn damaged_choice(random: &mut Random) -> Case {
     let mut page = page(random, no_habits);
-    let what = random.below(4);
-    if what == 1 || what == 3 {
+    let [head, threads, durations] = damaged_parts(random);
+    if threads {
         damage_chosen(random, &page.model, &mut page.choice.threads);
     }
-    if what == 2 || what == 3 {
+    if durations {
         for _ in 0..random.within(1, 2) {
             let a = random.below(page.choice.durations.len());
             page.choice.durations[a] = outside(random, page.model.activities[a].duration);
         }
     }
     let mut case = run_case(random, &page.model, &page.choice);
-    if what == 0 || random.one_in(8) {
+    if head {
         damage_second_head(random, &mut case.second);
     }
     case
@@ -651,19 +690,19 @@ fn damaged_choice(random: &mut Random) -> Case {
 
 fn damaged_plan(random: &mut Random) -> Case {
     let mut page = page(random, no_habits);
-    let what = random.below(4);
-    if what == 1 || what == 3 {
+    let [head, threads, words] = damaged_parts(random);
+    if threads {
         damage_chosen(random, &page.model, &mut page.plan.threads);
     }
     let m = page.plan.rows.len();
-    if (what == 2 || what == 3) && m < 32 {
+    if words && m < 32 {
         for _ in 0..random.within(1, 2) {
             let t = random.below(page.plan.words.len());
             page.plan.words[t] |= 1 << random.pick(&[m, 31]);
         }
     }
-    let mut case = plan_case(random, &page);
-    if what == 0 || random.one_in(8) {
+    let mut case = plan_case(&page);
+    if head {
         damage_second_head(random, &mut case.second);
     }
     case
