@@ -1,0 +1,146 @@
+/* The three calls of include/grid.h on model S, with its records read from samples/.
+ *
+ * usage: calls FOLDER
+ *
+ * FOLDER has S.model, S.plan, S-early.plan and S.choice. Each answer and every byte of the lent buffer are compared with
+ * the paper's; the first difference ends the program with a message and status 1.
+ */
+#include "grid.h"
+
+#include <stdio.h>
+#include <stdlib.h>
+#include <string.h>
+
+enum {
+    PLAN = 61,    /* the bytes of S's plan */
+    MOST = 256,   /* room for any of the samples */
+    AROUND = 16,  /* bytes in front of and behind the lent buffer, which no call may change */
+    FILLED = 0xa5 /* what the buffer and the bytes around it hold before a call */
+};
+
+typedef struct Record {
+    uint8_t bytes[MOST];
+    size_t length;
+} Record;
+
+static int done = 0;
+
+static void fail(const char *what, const char *how)
+{
+    fprintf(stderr, "calls: %s: %s\n", what, how);
+    exit(1);
+}
+
+static Record record(const char *folder, const char *name)
+{
+    Record read;
+    char path[1024];
+    FILE *file;
+    int length = snprintf(path, sizeof path, "%s/%s", folder, name);
+
+    if (length < 0 || (size_t)length >= sizeof path) {
+        fail(name, "the path is too long");
+    }
+    file = fopen(path, "rb");
+    if (file == NULL) {
+        fail(path, "it cannot be opened");
+    }
+    read.length = fread(read.bytes, 1, MOST, file);
+    if (ferror(file) || read.length == 0 || read.length == MOST) {
+        fail(path, "it cannot be read whole");
+    }
+    fclose(file);
+    return read;
+}
+
+static GridAnswer accepted(uint32_t usage, uint32_t capacity, uint32_t makespan, uint32_t length)
+{
+    GridAnswer answer = {0, usage, capacity, makespan, length};
+    return answer;
+}
+
+static GridAnswer refused(uint32_t number, uint32_t a, uint32_t b)
+{
+    GridAnswer answer = {number, a, b, 0, 0};
+    return answer;
+}
+
+static void expect(const char *what, GridAnswer answer, GridAnswer expected)
+{
+    if (answer.number != expected.number || answer.first != expected.first || answer.second != expected.second
+        || answer.third != expected.third || answer.length != expected.length) {
+        fprintf(stderr, "calls: %s: expected %u %u %u %u %u\n", what, (unsigned)expected.number,
+                (unsigned)expected.first, (unsigned)expected.second, (unsigned)expected.third,
+                (unsigned)expected.length);
+        fprintf(stderr, "calls: %s: answered %u %u %u %u %u\n", what, (unsigned)answer.number, (unsigned)answer.first,
+                (unsigned)answer.second, (unsigned)answer.third, (unsigned)answer.length);
+        exit(1);
+    }
+    done++;
+}
+
+static void check(const char *what, const Record *model, const Record *plan, GridAnswer plain, GridAnswer strict)
+{
+    expect(what, grid_check_plain(model->bytes, model->length, plan->bytes, plan->length), plain);
+    expect(what, grid_check_strict(model->bytes, model->length, plan->bytes, plan->length), strict);
+}
+
+/* The run with `length` bytes lent. Afterwards its first `written` bytes are those of `expected`, and no other changed. */
+static void run(const char *what, const Record *model, const Record *choice, size_t length, GridAnswer answer,
+                const uint8_t *expected, size_t written)
+{
+    uint8_t space[AROUND + MOST + AROUND];
+    size_t at;
+
+    memset(space, FILLED, sizeof space);
+    expect(what, grid_run(model->bytes, model->length, choice->bytes, choice->length, space + AROUND, length), answer);
+    for (at = 0; at < sizeof space; at++) {
+        int within = at >= AROUND && at < AROUND + written;
+        if (space[at] != (within ? expected[at - AROUND] : FILLED)) {
+            fprintf(stderr, "calls: %s: byte %ld of the buffer is %02x\n", what, (long)at - AROUND, space[at]);
+            exit(1);
+        }
+    }
+}
+
+int main(int count, char **words)
+{
+    static const uint8_t zeros[PLAN];
+    static const Record empty;
+    Record model, plan, early, choice, other;
+
+    if (count != 2) {
+        fprintf(stderr, "usage: calls FOLDER\n");
+        return 2;
+    }
+    model = record(words[1], "S.model");
+    plan = record(words[1], "S.plan");
+    early = record(words[1], "S-early.plan");
+    choice = record(words[1], "S.choice");
+
+    check("S's plan", &model, &plan, accepted(5, 8, 6, 0), accepted(5, 8, 6, 0));
+    check("activity 2 at tick 4", &model, &early, refused(25, 2, 1), refused(25, 2, 1));
+    check("no plan", &model, &empty, refused(8, 0, 0), refused(8, 0, 0));
+    check("no model", &empty, &plan, refused(1, 0, 0), refused(1, 0, 0));
+
+    if (plan.length != PLAN) {
+        fail("S's plan", "it has not 61 bytes");
+    }
+    run("a buffer of 61 bytes", &model, &choice, PLAN, accepted(5, 8, 6, PLAN), plan.bytes, PLAN);
+    run("a longer buffer", &model, &choice, MOST, accepted(5, 8, 6, PLAN), plan.bytes, PLAN);
+    run("a buffer of 60 bytes", &model, &choice, PLAN - 1, refused(41, PLAN, 0), zeros, 0);
+    run("a buffer of no bytes", &model, &choice, 0, refused(41, PLAN, 0), zeros, 0);
+    run("a plan for the choice", &model, &plan, PLAN, refused(11, 0, 0), zeros, 0);
+    run("no model for the run", &empty, &choice, PLAN, refused(1, 0, 0), zeros, 0);
+
+    other = model;
+    other.bytes[9] = 5;
+    run("H 5", &other, &choice, PLAN, refused(42, 2, 0), zeros, PLAN - 3 * 4);
+    other = model;
+    other.bytes[21] = 5;
+    choice.bytes[14] = 5;
+    run("a chosen period of 5", &other, &choice, PLAN, refused(43, 2, 0), zeros, PLAN);
+
+    printf("calls: %d answers as expected\n", done);
+    return 0;
+}
