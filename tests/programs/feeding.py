@@ -1,0 +1,185 @@
+"""What the scripts that feed a built program share: the ways to start it, and the cases that both programs have.
+
+The first difference ends the script with a message and a status that is not 0.
+"""
+import os
+import pathlib
+import signal
+import subprocess
+import sys
+import time
+
+os.chdir(pathlib.Path(__file__).resolve().parent.parent.parent)
+LIMIT = 17189  # "at most 17,189 bytes of standard input"
+WAIT = 20  # seconds after which a program counts as hanging
+MODEL = pathlib.Path("samples/S.model").read_bytes()
+
+
+def be(value, size):
+    return value.to_bytes(size, "big")
+
+
+def in_pieces(data, size):
+    return [data[at:at + size] for at in range(0, len(data), size)]
+
+
+def largest_model(ticks, priorities=bytes(8)):
+    """The longest model, 570 bytes: 8 cores, 8 threads, 32 activities of so many ticks, H 4096. No predecessors."""
+    model = be(570, 4) + bytes([1, 8, 8, 32]) + be(4096, 2) + b"".join(bytes(8) + be(p, 2) for p in priorities)
+    return model + b"".join(bytes([a % 8]) + be(ticks, 2) + be(ticks, 2) + bytes(10) for a in range(32))
+
+
+def largest_words(ticks):
+    """Its words where all priorities are equal: activities 0 to 7 first, then 8 to 15, and so on."""
+    return [0xff << 8 * (t // ticks) if t < 4 * ticks else 0 for t in range(4096)]
+
+
+def stopped(program):
+    """Stops the program, and lets it go on."""
+    program.send_signal(signal.SIGSTOP)
+    time.sleep(0.01)
+    program.send_signal(signal.SIGCONT)
+
+
+def shown(data):
+    return repr(data) if len(data) <= 200 else "%r .. (%d bytes)" % (data[:200], len(data))
+
+
+class Fed:
+    """The built program of a name, or the one that the command line names, relative to the repository's root."""
+
+    def __init__(self, name):
+        self.name = name
+        self.path = os.path.join(".", sys.argv[1] if len(sys.argv) > 1 else "target/bin/" + name)
+        self.done = 0
+        if not os.path.isfile(self.path) or not os.access(self.path, os.X_OK):
+            self.fail("no program %s; rt check %s builds it" % (self.path, name))
+
+    def fail(self, message):
+        sys.exit("check-%s: %s" % (self.name, message))
+
+    def expect(self, what, ended, expected):
+        """Both are the status, what stands on standard output and what stands on standard error; of the last, a word that
+        its one line contains is expected, or None where nothing may stand there."""
+        status, said, errors = ended
+        ends_with, printed, message = expected
+        if said != printed:
+            self.fail("%s: expected %s, but it printed %s" % (what, shown(printed), shown(said)))
+        if errors != b"" if message is None else message not in errors or errors.count(b"\n") != 1:
+            self.fail("%s: expected on standard error %r, but it has %s" % (what, message or b"", shown(errors)))
+        if status != ends_with:
+            self.fail("%s: the program ended with %d" % (what, status))
+        self.done += 1
+
+    def started(self, what, command, expected, **options):
+        options = {"stdout": subprocess.PIPE, "stderr": subprocess.PIPE, **options}
+        try:
+            ended = subprocess.run(command, timeout=WAIT, **options)
+        except subprocess.TimeoutExpired:
+            self.fail("%s: the program hangs" % what)
+        self.expect(what, (ended.returncode, ended.stdout or b"", ended.stderr), expected)
+
+    def run(self, what, data, printed):
+        """The program on bytes that stand ready."""
+        self.started(what, [self.path], (0, printed, None), input=data)
+
+    def shell(self, what, command, message):
+        """The program, which is $0, under a shell command that opens or closes its descriptors; it prints nothing."""
+        self.started(what, ["sh", "-c", command, self.path], (0, b"", message), stdin=subprocess.DEVNULL)
+
+    def fed(self, what, pieces, printed, close=True, between=None):
+        """The program on a pipe that is filled piece by piece; the end comes before or only after the answer."""
+        program = subprocess.Popen([self.path], stdin=subprocess.PIPE, stdout=subprocess.PIPE, stderr=subprocess.PIPE)
+        try:
+            for piece in pieces:
+                program.stdin.write(piece)
+                program.stdin.flush()
+                time.sleep(0.005)
+                if between is not None:
+                    between(program)
+        except BrokenPipeError:
+            self.fail("%s: the program ended before its input" % what)
+        if close:
+            program.stdin.close()
+        try:
+            program.wait(timeout=WAIT)
+        except subprocess.TimeoutExpired:
+            program.kill()
+            self.fail("%s: the program hangs" % what)
+        self.expect(what, (program.returncode, program.stdout.read(), program.stderr.read()), (0, printed, None))
+        for end in (program.stdin, program.stdout, program.stderr):
+            end.close()
+
+    def parts(self, pair, refused):
+        """Where the two records part; refused gives what is printed of a number with place 0 0."""
+        def first_length(value):
+            return be(value, 4) + pair[4:]
+
+        self.run("nothing", b"", refused(1))
+        self.run("a model alone", MODEL, refused(8))
+        self.run("a model less a byte", MODEL[:-1], refused(1))
+        for n in range(1, 4):
+            self.run("%d bytes, too few for a length" % n, bytes(n), refused(1))
+        for n in range(4):
+            self.run("a first length of %d" % n, first_length(n), refused(1))
+            self.run("a first length of %d and nothing behind it" % n, be(n, 4), refused(1))
+        self.run("a first length of 4 and nothing behind it", be(4, 4), refused(1))
+        self.run("a first length that reaches the end", first_length(len(pair)), refused(4))
+        self.run("a first length that passes the end", first_length(len(pair) + 1), refused(1))
+        self.run("the largest first length", first_length(2 ** 32 - 1), refused(1))
+
+    def limit(self, second, refused):
+        """What follows 17,189 bytes is not read; refused gives what is printed of a number with place 0 0."""
+        def first_length(value, size):
+            return (be(value, 4) + MODEL[4:] + second).ljust(size, b"\0")
+
+        def second_length(value, size):
+            return (MODEL + be(value, 4) + second[4:]).ljust(size, b"\0")
+
+        for n in (LIMIT - 1, LIMIT, LIMIT + 1, 100000):
+            self.run("S's model and zeros, %d bytes" % n, MODEL.ljust(n, b"\0"), refused(8))
+            self.run("S's pair and zeros, %d bytes" % n, (MODEL + second).ljust(n, b"\0"), refused(8))
+            # a second length that holds at the limit only: 11, its length differs from its formula, and not 8
+            self.run("a second record up to the limit, %d bytes" % n, second_length(LIMIT - len(MODEL), n),
+                     refused(8 if n < LIMIT else 11))
+            # one that would hold if the byte behind the limit were read
+            self.run("a second record past the limit, %d bytes" % n, second_length(LIMIT + 1 - len(MODEL), n), refused(8))
+            # the same of the first record: 4 and not 1
+            self.run("a first record up to the limit, %d bytes" % n, first_length(LIMIT, n),
+                     refused(1 if n < LIMIT else 4))
+            self.run("a first record past the limit, %d bytes" % n, first_length(LIMIT + 1, n), refused(1))
+        self.fed("a second record up to the limit, in pieces, the pipe left open",
+                 in_pieces(second_length(LIMIT - len(MODEL), LIMIT), 4000), refused(11), close=False)
+
+    def unreadable(self, pair):
+        """An input that cannot be read: a message, and nothing on standard output."""
+        message = b"%s: standard input: " % self.name.encode()
+        self.shell("a closed standard input", 'exec "$0" <&-', message)
+        self.shell("a directory as standard input", 'exec "$0" <samples', message)
+        read_end, write_end = os.pipe()
+        os.set_blocking(read_end, False)
+        os.write(write_end, pair)
+        self.started("a read that fails behind S's pair", [self.path], (0, b"", message), stdin=read_end)
+        os.close(read_end)
+        os.close(write_end)
+
+    def unwritable(self, pair, files):
+        """An output that cannot be written: a message where there is room for one. The files have the pair's bytes."""
+        message = b"%s: standard output: " % self.name.encode()
+        feed = "cat %s | " % files
+        self.shell("a closed standard output", feed + '"$0" >&-', message)
+        self.shell("a full standard output", feed + '"$0" >/dev/full', message)
+        self.shell("closed standard output and standard error", feed + '"$0" >&- 2>&-', None)
+        self.unread("ignored", signal.SIG_IGN, pair, (0, b"", message))
+        self.unread("left", signal.SIG_DFL, pair, (-signal.SIGPIPE, b"", None))
+
+    def unread(self, how, action, pair, expected):
+        """The program writes to a pipe that nobody reads."""
+        read_end, write_end = os.pipe()
+        os.close(read_end)
+        self.started("a pipe that nobody reads, its signal " + how, [self.path], expected, input=pair, stdout=write_end,
+                     restore_signals=False, preexec_fn=lambda: signal.signal(signal.SIGPIPE, action))
+        os.close(write_end)
+
+    def print_done(self):
+        print("check-%s: %d cases as expected" % (self.name, self.done))
