@@ -55,13 +55,13 @@ static Record record(const char *folder, const char *name)
 
 static GridAnswer accepted(uint32_t usage, uint32_t capacity, uint32_t makespan, uint32_t length)
 {
-    GridAnswer answer = {0, usage, capacity, makespan, length};
+    GridAnswer answer = {.number = 0, .first = usage, .second = capacity, .third = makespan, .length = length};
     return answer;
 }
 
 static GridAnswer refused(uint32_t number, uint32_t a, uint32_t b)
 {
-    GridAnswer answer = {number, a, b, 0, 0};
+    GridAnswer answer = {.number = number, .first = a, .second = b, .third = 0, .length = 0};
     return answer;
 }
 
@@ -120,6 +120,12 @@ int main(int count, char **words)
 
     check("S's plan", &model, &plan, accepted(5, 8, 6, 0), accepted(5, 8, 6, 0));
     check("activity 2 at tick 4", &model, &early, refused(25, 2, 1), refused(25, 2, 1));
+    other = plan;
+    other.bytes[26] = 6; /* start and end of activity 2, and the words of ticks 5 and 6 */
+    other.bytes[28] = 7;
+    other.bytes[52] = 0;
+    other.bytes[56] = 4;
+    check("activity 2 at tick 6", &model, &other, accepted(5, 8, 7, 0), refused(30, 5, 2));
     check("no plan", &model, &empty, refused(8, 0, 0), refused(8, 0, 0));
     check("no model", &empty, &plan, refused(1, 0, 0), refused(1, 0, 0));
 
