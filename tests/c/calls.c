@@ -14,11 +14,12 @@
 enum {
     PLAN = 61,    /* the bytes of S's plan */
     MOST = 256,   /* room for any of the samples */
-    AROUND = 16,  /* bytes in front of and behind the lent buffer, which no call may change */
+    AROUND = 17,  /* bytes in front of and behind the lent buffer, which no call may change; so it is not aligned */
     FILLED = 0xa5 /* what the buffer and the bytes around it hold before a call */
 };
 
 typedef struct Record {
+    uint8_t front; /* so that the bytes are not aligned */
     uint8_t bytes[MOST];
     size_t length;
 } Record;
@@ -33,7 +34,7 @@ static void fail(const char *what, const char *how)
 
 static Record record(const char *folder, const char *name)
 {
-    Record read;
+    Record read = {0};
     char path[1024];
     FILE *file;
     int length = snprintf(path, sizeof path, "%s/%s", folder, name);
@@ -126,6 +127,7 @@ int main(int count, char **words)
     other.bytes[52] = 0;
     other.bytes[56] = 4;
     check("activity 2 at tick 6", &model, &other, accepted(5, 8, 7, 0), refused(30, 5, 2));
+    check("the model for the plan too", &model, &model, refused(10, 0, 0), refused(10, 0, 0));
     check("no plan", &model, &empty, refused(8, 0, 0), refused(8, 0, 0));
     check("no model", &empty, &plan, refused(1, 0, 0), refused(1, 0, 0));
 
