@@ -7,6 +7,7 @@ import pathlib
 import signal
 import subprocess
 import sys
+import threading
 import time
 
 os.chdir(pathlib.Path(__file__).resolve().parent.parent.parent)
@@ -79,6 +80,18 @@ class Fed:
             self.fail("%s: the program hangs" % what)
         self.expect(what, (ended.returncode, ended.stdout or b"", ended.stderr), expected)
 
+    def left(self, what, program, read):
+        """What a program that was started leaves, its standard output by read, and its status."""
+        hanging = threading.Timer(WAIT, program.kill)
+        hanging.start()
+        said, errors = read(), program.stderr.read()
+        status = program.wait()
+        if not hanging.is_alive():
+            self.fail("%s: the program hangs" % what)
+        hanging.cancel()
+        program.stderr.close()
+        return status, said, errors
+
     def run(self, what, data, printed):
         """The program on bytes that stand ready."""
         self.started(what, [self.path], (0, printed, None), input=data)
@@ -101,13 +114,8 @@ class Fed:
             self.fail("%s: the program ended before its input" % what)
         if close:
             program.stdin.close()
-        try:
-            program.wait(timeout=WAIT)
-        except subprocess.TimeoutExpired:
-            program.kill()
-            self.fail("%s: the program hangs" % what)
-        self.expect(what, (program.returncode, program.stdout.read(), program.stderr.read()), (0, printed, None))
-        for end in (program.stdin, program.stdout, program.stderr):
+        self.expect(what, self.left(what, program, program.stdout.read), (0, printed, None))
+        for end in (program.stdin, program.stdout):
             end.close()
 
     def parts(self, pair, refused):
