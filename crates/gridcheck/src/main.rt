@@ -2,6 +2,7 @@
 // second `strict`; then `accepted` and the three figures, or `refused` and number, A, B".
 use input::Input;
 ghost use mathlib.Core.Path.{_≡_};
+ghost use Prim.Native.Nat.{_≤_};
 ghost use lib.ListN.{length, take};
 ghost use Rattle.schedule.specs.Streams.{inputLimit};
 ghost use Rattle.schedule.specs.Lines.{gridcheck};
@@ -21,6 +22,7 @@ struct Lines {
 // The two lines for the first bytes of the input, as many as were read. The array that is read into has the limit's length.
 fn answer(input: &[u8; LIMIT], read: usize) -> Lines
     ensures { λ _. ⌜ length (now (input .entry)) ≡ inputLimit ⌝ }
+    ensures { λ r. ⌜ r .length ≤ length (r .bytes) ⌝ }
     ensures { λ r. ⌜ (r .length ≡ length (gridcheck (take read (now (input .entry)))))
         × (take (r .length) (r .bytes) ≡ gridcheck (take read (now (input .entry)))) ⌝ }
 {

@@ -1,40 +1,50 @@
--- The lines made of the run's answer on the two records of a limited input, and of the buffer that it leaves, are all that
--- `gridrun` prints.
+-- The lines made of the run's answer on the two records of what was read, and of the buffer that it leaves, are all that
+-- `gridrun` prints, and they fit.
 -- Assumes nothing.
-use Prim.Native.Nat.{ℕ, _+_, _≤_}
+use Prim.Native.Nat.{ℕ, _≤_}
+use native.Mathlib.Nat.{le-trans}
 use native.Mathlib.Omega.{arith}
-use mathlib.Core.Bool.{Bool, true, false, cond}
-use mathlib.Core.List.{List, []}
+use mathlib.Core.List.{List}
 use mathlib.Core.Path.{_≡_, sym, subst, ap, ap₂, _∙_}
-use lib.ListN.{length, drop}
-use lib.Seq.{getD-drop}
-use Rattle.schedule.specs.Fields.{field, Bytes}
+use lib.ListN.{length, take, length-take}
+use Rattle.schedule.specs.Fields.{Bytes}
 use Rattle.schedule.specs.Model.{model}
 use Rattle.schedule.specs.Choice.{choice}
 use Rattle.schedule.specs.Plan.{plan}
 use Rattle.schedule.specs.Answers.{Answer, Written, machinePlan, runAnswer, runBuffer}
-use Rattle.schedule.specs.Streams.{inputLimit, splits, firstRecord, secondRecord}
+use Rattle.schedule.specs.Streams.{inputLimit, firstRecord, secondRecord, taken}
 use Rattle.schedule.specs.Lines.{runRoom, runLines, gridrun}
-use Rattle.laws.proofs.FieldLaws.{byte-lt}
-use Rattle.laws.proofs.LinesLaws.{taken-whole}
+use Rattle.laws.proofs.LinesLaws.{taken-whole, bytes-take, second-bytes}
+use Rattle.demands.proofs.Fits.{gridrun-fits}
 use Rattle.demands.proofs.Page.{page-written}
+use Rattle.text.specs.Printed.{leaves, printed}
+use Rattle.text.proofs.PrintedLaws.{printed-fits}
 
--- the second record of bytes is bytes
-bytes-second : (s : List ℕ) → Bytes s → Bytes (secondRecord s)
-unfolding secondRecord
-bytes-second s h = by (splits s)
-  where
-    by : (t : Bool) → Bytes (cond t (drop (field s 0 4) s) [])
-    by true = λ i l. rw (getD-drop (field s 0 4) s i 0) (byte-lt s h (field s 0 4 + i))
-    by false = λ i l. absurd (omega arith)
-
-pub answered : (s m q buffer buffer′ : List ℕ) (verdict : Answer Written) → length s ≤ inputLimit → Bytes s
+lines : (s m q buffer buffer′ : List ℕ) (verdict : Answer Written) → length s ≤ inputLimit → Bytes s
     → m ≡ firstRecord s → q ≡ secondRecord s → length buffer ≡ runRoom → verdict ≡ runAnswer m q (length buffer)
     → buffer′ ≡ runBuffer m q buffer → runLines verdict (plan buffer′) ≡ gridrun s
 unfolding gridrun
-answered s m q buffer buffer′ verdict h bytes first second room e f =
+lines s m q buffer buffer′ verdict h bytes first second room e f =
+    let whole = sym (taken-whole s h) in
+    let second-whole : q ≡ secondRecord (taken s) = second ∙ ap secondRecord whole in
     ap₂ (λ (v : Answer Written) (b : List ℕ). runLines v (plan b)) e f
-    ∙ page-written m q buffer (subst Bytes (sym second) (bytes-second s bytes))
+    ∙ page-written m q buffer (subst Bytes (sym second-whole) (second-bytes s bytes))
     ∙ ap (λ (k : ℕ). runLines (runAnswer m q k) (machinePlan (model m) (choice q))) room
     ∙ ap₂ (λ (x y : List ℕ). runLines (runAnswer x y runRoom) (machinePlan (model x) (choice y)))
-    (first ∙ ap firstRecord (sym (taken-whole s h))) (second ∙ ap secondRecord (sym (taken-whole s h)))
+    (first ∙ ap firstRecord whole) second-whole
+
+-- printed into an array that holds 57,390 bytes
+pub answered : (input : List ℕ) (read : ℕ) (old : List ℕ) {s m q buffer buffer′ new : List ℕ} {verdict : Answer Written} {r : ℕ}
+    → length input ≤ inputLimit → Bytes input → s ≡ take read input → m ≡ firstRecord s → q ≡ secondRecord s
+    → length buffer ≡ runRoom → verdict ≡ runAnswer m q (length buffer) → buffer′ ≡ runBuffer m q buffer
+    → 57390 ≤ length old → leaves r new ≡ printed (runLines verdict (plan buffer′)) old
+    → (r ≡ length (gridrun (take read input))) × (take r new ≡ gridrun (take read input))
+answered input read old {m = m} {q = q} {buffer = buffer} {buffer′ = buffer′} {verdict = verdict}
+    h bytes taken first second room e f fits p =
+    let s = take read input in
+    let s-bytes = bytes-take read input bytes in
+    let limit : length s ≤ inputLimit = omega (arith, length-take read input) in
+    let made =
+    lines s m q buffer buffer′ verdict limit s-bytes (first ∙ ap firstRecord taken) (second ∙ ap secondRecord taken) room e f in
+    printed-fits (gridrun s) old (le-trans (gridrun-fits s s-bytes) fits)
+    (p ∙ ap (λ (l : List ℕ). printed l old) made)

@@ -2,39 +2,59 @@
 // word as 8 lowercase hexadecimal digits, then `run accepted` with the three figures; else only `run refused` with number,
 // A, B".
 use input::Input;
-ghost use Prim.Native.Nat.{_≤_};
 ghost use mathlib.Core.Path.{_≡_};
-ghost use lib.ListN.{length};
+ghost use Prim.Native.Nat.{_≤_};
+ghost use lib.ListN.{length, take};
 ghost use Rattle.schedule.specs.Streams.{inputLimit};
 ghost use Rattle.schedule.specs.Lines.{gridrun};
-ghost use Rattle.text.specs.Printed.{leaves, printed};
 
-// The lines for the bytes that were read. The plan's buffer holds the longest plan.
-fn answer(input: &[u8], out: &mut [u8]) -> usize
-    requires { ⌜ length (now input) ≤ inputLimit ⌝ }
-    ensures { λ r. ⌜ leaves r (now (out .exit)) ≡ printed (gridrun (now (input .entry))) (now (out .entry)) ⌝ }
-{
-    let mut plan = [0u8; 16553];
-    let verdict = run::run(
-        streams::first_record(input),
-        streams::second_record(input),
-        &mut plan,
-    );
-    text::run_lines(out, verdict, &plan)
+// "at most 17,189 bytes of standard input"
+const LIMIT: usize = 17189;
+
+// The longest plan.
+const PLAN: usize = 16553;
+
+// Room for the lines of 4096 ticks and the last line.
+const ROOM: usize = 60000;
+
+// The text at the front of an array.
+struct Lines {
+    bytes: [u8; ROOM],
+    length: usize,
 }
 
-// "at most 17,189 bytes of standard input". Where a read fails nothing is printed. The lines' buffer holds 4096 ticks and
-// the last line.
+// The lines for the first bytes of the input, as many as were read. The array that is read into has the limit's length.
+fn answer(input: &[u8; LIMIT], read: usize) -> Lines
+    ensures { λ _. ⌜ length (now (input .entry)) ≡ inputLimit ⌝ }
+    ensures { λ r. ⌜ r .length ≤ length (r .bytes) ⌝ }
+    ensures { λ r. ⌜ (r .length ≡ length (gridrun (take read (now (input .entry)))))
+        × (take (r .length) (r .bytes) ≡ gridrun (take read (now (input .entry)))) ⌝ }
+{
+    let all = &input[..];
+    let taken = streams::front(all, read);
+    let mut plan = [0u8; PLAN];
+    let verdict = run::run(
+        streams::first_record(taken),
+        streams::second_record(taken),
+        &mut plan,
+    );
+    let mut bytes = [0u8; ROOM];
+    let length = text::run_lines(&mut bytes, verdict, &plan);
+    Lines { bytes, length }
+}
+
+// Where a read fails nothing is printed.
 fn main() {
-    let mut bytes = [0u8; 17189];
+    let mut bytes = [0u8; LIMIT];
     let read = input::fill(&mut bytes);
     let Input::Bytes(n) = read else {
         os::fail(b"gridrun: standard input");
         return;
     };
-    let mut lines = [0u8; 60000];
-    let length = answer(&bytes[0..n], &mut lines);
-    if !io::write_all(libc::STDOUT_FILENO, &lines[0..length]) {
+    let lines = answer(&bytes, n);
+    let text = lines.bytes;
+    let length = lines.length;
+    if !io::write_all(libc::STDOUT_FILENO, &text[0..length]) {
         os::fail(b"gridrun: standard output");
     }
 }

@@ -7,7 +7,7 @@ use native.Mathlib.Omega.{arith}
 use mathlib.Core.Bool.{Bool, true, false, cond}
 use mathlib.Core.List.{List, [], _∷_, _++_}
 use mathlib.Core.Path.{_≡_, refl, sym, ap, _∙_}
-use lib.ListN.{length, drop, length-take}
+use lib.ListN.{length, take, drop, length-take}
 use lib.Seq.{take-all, getD-take, getD-drop}
 use borrow.Author.Tests.{lt-ltb, le-ltb}
 use Rattle.schedule.specs.Fields.{field, Bytes}
@@ -78,11 +78,9 @@ pub taken-whole : (s : List ℕ) → length s ≤ inputLimit → taken s ≡ s
 unfolding taken
 taken-whole s h = take-all inputLimit s h
 
--- the bytes that are taken, and the second record of bytes, are bytes
-bytes-taken : (s : List ℕ) → Bytes s → Bytes (taken s)
-unfolding taken
-bytes-taken s h i l =
-    rw (getD-take inputLimit s i 0 (omega (arith, length-take inputLimit s))) (byte-lt s h i)
+-- the first bytes, and the second record of bytes, are bytes
+pub bytes-take : (n : ℕ) (s : List ℕ) → Bytes s → Bytes (take n s)
+bytes-take n s h i l = rw (getD-take n s i 0 (omega (arith, length-take n s))) (byte-lt s h i)
 
 bytes-second : (s : List ℕ) → Bytes s → Bytes (secondRecord s)
 unfolding secondRecord
@@ -93,4 +91,5 @@ bytes-second s h = by (splits s)
     by false = λ i l. absurd (omega arith)
 
 pub second-bytes : (s : List ℕ) → Bytes s → Bytes (secondRecord (taken s))
-second-bytes s h = bytes-second (taken s) (bytes-taken s h)
+unfolding taken
+second-bytes s h = bytes-second (taken s) (bytes-take inputLimit s h)

@@ -1,12 +1,15 @@
--- How many bytes were printed lies within the buffer, for the programs that write them out.
+-- How many bytes were printed lies within the buffer, and a text that fits is printed whole, for the programs that write it
+-- out.
 -- Assumes nothing.
 use Prim.Native.Nat.{ℕ, _≤_}
 use native.Mathlib.Omega.{arith}
 use mathlib.Core.Bool.{Bool, true, false, cond}
 use mathlib.Core.List.{List, _++_}
-use mathlib.Core.Path.{_≡_, ap}
+use mathlib.Core.Path.{_≡_, refl, ap, _∙_}
 use lib.Dec.{T, leb, leb→le}
-use lib.ListN.{length, drop}
+use lib.ListN.{length, take, drop}
+use lib.Seq.{take-at}
+use borrow.Author.Tests.{le-leb}
 use Rattle.text.specs.Printed.{Printed, leaves, printed}
 
 -- the count lies within the buffer
@@ -19,3 +22,18 @@ pub printed-le : (text old : List ℕ) {r : ℕ} {new : List ℕ} → leaves r n
 unfolding printed
 printed-le text old e =
     rw (ap (λ (p : Printed). p .count) e) (either-le (leb (length text) (length old)) text old (leb→le (length text) (length old)))
+
+-- a text that fits is printed whole: the count is its length, and so many bytes of the buffer are the text
+pub printed-fits : (text old : List ℕ) {r : ℕ} {new : List ℕ} → length text ≤ length old → leaves r new ≡ printed text old
+    → (r ≡ length text) × (take r new ≡ text)
+unfolding printed
+printed-fits text old {r} {new} h e =
+    let whole : leaves r new ≡ leaves (length text) (text ++ drop (length text) old) =
+    e ∙ simp (le-leb (length text) (length old) h) in
+    let count : r ≡ length text = ap (λ (p : Printed). p .count) whole in
+    let buffer : new ≡ text ++ drop (length text) old = ap (λ (p : Printed). p .buffer) whole in (
+      count,
+      ap (λ (b : List ℕ). take r b) buffer
+          ∙ ap (λ (n : ℕ). take n (text ++ drop (length text) old)) count
+          ∙ take-at text (drop (length text) old) (length text) refl,
+    )
