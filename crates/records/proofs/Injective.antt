@@ -14,13 +14,14 @@ use Rattle.records.specs.declared.Pass.{Pass}
 use Rattle.records.specs.declared.model.ThreadRead.{ThreadRead}
 use Rattle.records.specs.declared.model.ActivityRead.{ActivityRead}
 use Rattle.records.specs.declared.model.ModelRead.{ModelRead}
+use Rattle.records.specs.declared.form.HeadRead.{HeadRead}
 use Rattle.records.specs.declared.timings.TimingRead.{TimingRead}
 use Rattle.records.specs.declared.choice.DurationRead.{DurationRead}
 use Rattle.records.specs.declared.choice.ChoiceRead.{ChoiceRead}
 use Rattle.records.specs.declared.plan.WordRead.{WordRead}
 use Rattle.records.specs.declared.plan.PlanRead.{PlanRead}
 use Rattle.records.specs.Reads.{passNumbers, threadReadNumbers, activityReadNumbers, modelReadNumbers}
-use Rattle.records.specs.Reads.{timingReadNumbers, durationReadNumbers, choiceReadNumbers}
+use Rattle.records.specs.Reads.{headReadNumbers, timingReadNumbers, durationReadNumbers, choiceReadNumbers}
 use Rattle.records.specs.Reads.{wordReadNumbers, planReadNumbers}
 
 -- an answer is a row, said as it is, or a refusal, said by its numbers
@@ -61,6 +62,13 @@ model-read-injective = told-apart ModelRead.Model ModelRead.Refused modelReadNum
     says : (x : ModelRead) → Says ModelRead.Model ModelRead.Refused modelReadNumbers x
     says (ModelRead.Model row) = inl (row, (refl, refl))
     says (ModelRead.Refused x) = inr (x, (refl, refl))
+
+pub head-read-injective : (x y : HeadRead) → headReadNumbers x ≡ headReadNumbers y → x ≡ y
+head-read-injective = told-apart HeadRead.Head HeadRead.Refused headReadNumbers says
+  where
+    says : (x : HeadRead) → Says HeadRead.Head HeadRead.Refused headReadNumbers x
+    says (HeadRead.Head sizes) = inl (sizes, (refl, refl))
+    says (HeadRead.Refused x) = inr (x, (refl, refl))
 
 pub timing-read-injective : (x y : TimingRead) → timingReadNumbers x ≡ timingReadNumbers y → x ≡ y
 timing-read-injective = told-apart TimingRead.Row TimingRead.Refused timingReadNumbers says

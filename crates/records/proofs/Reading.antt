@@ -8,7 +8,7 @@ use mathlib.Core.Path.{_≡_, refl, sym, subst, ap, _∙_}
 use borrow.Author.Tests.{not-false, not-true}
 use Rattle.schedule.specs.Bounded.{first}
 use Rattle.schedule.specs.Rule.{Rule, Refusal, break, firstBreak}
-use Rattle.schedule.specs.Answers.{Answer, accepted, refused}
+use Rattle.schedule.specs.Answers.{Answer, accepted, refused, answer}
 use Rattle.laws.proofs.RowLaws.{ClearTo, clear-again, clear-end, clear-stop, refusalAt, rowBreak}
 use Rattle.records.specs.Reads.{refusalIn, refusalOf, rowAnswer}
 
@@ -109,3 +109,30 @@ rule-picked r rs e f =
         → orElse (cond t none (some (refusalAt r 0 0))) (firstBreak rs) ≡ pick t (r .number) (firstBreak rs)
     one true = refl
     one false = refl
+
+-- an answer that carries something is unbroken, and carries the pass
+pub unbroken : {F : Type 0} (o : Option Refusal) (pass f : F) (n : Answer F) → n ≡ answer o pass → n ≡ accepted f → o ≡ none
+unfolding answer
+unbroken none pass f n e told = refl
+unbroken (some y) pass f n e told = cc
+
+pub carried : {F : Type 0} (o : Option Refusal) (pass f : F) (n : Answer F) → n ≡ answer o pass → n ≡ accepted f → f ≡ pass
+unfolding answer
+carried none pass f n e told = cc
+carried (some y) pass f n e told = cc
+
+-- one that carries a refusal is the answer, whatever rules come behind
+pub stopped : {F : Type 0} (o rest : Option Refusal) (pass : F) (n : Answer F) (x : Refusal)
+    → n ≡ answer o pass → n ≡ refused x → n ≡ answer (orElse o rest) pass
+unfolding answer
+stopped none rest pass n x e told = cc
+stopped (some y) rest pass n x e told = e
+
+pub answer-refusal : {F : Type 0} (o : Option Refusal) (pass : F) → refusalOf (answer o pass) ≡ o
+unfolding answer
+answer-refusal none pass = refl
+answer-refusal (some x) pass = refl
+
+-- and so is a pass that is refused
+pub pass-stopped : (o p rest : Option Refusal) (x : Refusal) → o ≡ p → o ≡ some x → o ≡ orElse p rest
+pass-stopped o p rest x e told = told ∙ ap (λ (q : Option Refusal). orElse q rest) (sym told ∙ e)

@@ -18,6 +18,7 @@ use Rattle.records.specs.declared.model.ActivityRow.{ActivityRow}
 use Rattle.records.specs.declared.model.ThreadRead.{ThreadRead}
 use Rattle.records.specs.declared.model.ActivityRead.{ActivityRead}
 use Rattle.records.specs.declared.model.ModelRead.{ModelRead}
+use Rattle.records.specs.declared.form.HeadRead.{HeadRead}
 use Rattle.records.specs.declared.plan.Timing.{Timing}
 use Rattle.records.specs.declared.timings.TimingRead.{TimingRead}
 use Rattle.records.specs.declared.choice.DurationRead.{DurationRead}
@@ -66,7 +67,11 @@ modelHead s =
     ∷ formulaRule 4 (modelLength (model s .threads) (model s .activities)) s
     ∷ []
 
--- ---- rows of release and period
+-- ---- a second record's head, and rows of release and period
+
+abbrev pub headReadNumbers : HeadRead → Answer Sizes
+headReadNumbers (HeadRead.Head sizes) = accepted sizes
+headReadNumbers (HeadRead.Refused x) = refused (refusalNumbers x)
 
 abbrev pub timingReadNumbers : TimingRead → Answer Timing
 timingReadNumbers (TimingRead.Row row) = accepted row

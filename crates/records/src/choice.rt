@@ -1,24 +1,33 @@
 // The choice record: "n, m (1 byte each); n rows of release, period (2 each); m durations (2 each)".
 use crate::Pass;
 use crate::form;
+use crate::form::HeadRead;
 use crate::model;
+use crate::model::Activity;
+use crate::model::Thread;
 use crate::plan::Timing;
 use crate::timings;
-use schedule::Activity;
 use schedule::FormRefusal;
 use schedule::Refusal;
-use schedule::Thread;
 ghost use mathlib.Core.Path.{_≡_};
 ghost use Rattle.schedule.specs.Rule.{break, firstBreak};
 ghost use Rattle.schedule.specs.Model.{model};
 ghost use Rattle.schedule.specs.Choice.{choice, choiceForm, choiceLength, durationRule};
-ghost use Rattle.records.specs.Rows.{timing};
-ghost use Rattle.records.specs.Reads.{rowAnswer, refusalOf, passNumbers, choiceHead};
+ghost use Rattle.schedule.specs.Answers.{answer};
+ghost use Rattle.records.specs.Rows.{sizesOf, timing};
+ghost use Rattle.records.specs.Reads.{rowAnswer, refusalOf, passNumbers, headReadNumbers, choiceHead};
 ghost use Rattle.records.specs.Reads.{durationReadNumbers, choiceReadNumbers};
 
-// Thread row j of a choice, of any bytes.
+// The row of an activity's thread in a choice, of any bytes.
 pub fn thread_row(q: &[u8], j: Thread) -> Timing
     ensures { λ r. ⌜ r ≡ timing (choice (now (q .entry)) .release (j .0)) (choice (now (q .entry)) .period (j .0)) ⌝ }
+{
+    timings::row(q, 7, j.number())
+}
+
+// Thread row j of a choice, of any bytes, for a walk over all: release and period, and no priority.
+pub fn timing_at(q: &[u8], j: u8) -> Timing
+    ensures { λ r. ⌜ r ≡ timing (choice (now (q .entry)) .release j) (choice (now (q .entry)) .period j) ⌝ }
 {
     timings::row(q, 7, j)
 }
@@ -42,22 +51,23 @@ fn formula(q: &[u8]) -> u32
 }
 
 // Rules 8 to 11, "in list order".
-fn head(s: &[u8], q: &[u8]) -> Pass
-    ensures { λ r. ⌜ passNumbers r ≡ firstBreak (choiceHead (model (now (s .entry))) (now (q .entry))) ⌝ }
+fn head(s: &[u8], q: &[u8]) -> HeadRead
+    ensures { λ r. ⌜ headReadNumbers r
+        ≡ answer (firstBreak (choiceHead (model (now (s .entry))) (now (q .entry)))) (sizesOf (model (now (s .entry)))) ⌝ }
 {
     if !form::length_holds(q, 7) {
-        return Pass::Refused(form::refusal(FormRefusal::SecondSize, 0));
+        return HeadRead::Refused(form::refusal(FormRefusal::SecondSize, 0));
     }
     if !form::version_holds(q) {
-        return Pass::Refused(form::refusal(FormRefusal::SecondVersion, 0));
+        return HeadRead::Refused(form::refusal(FormRefusal::SecondVersion, 0));
     }
     if !form::counts_hold(s, q) {
-        return Pass::Refused(form::refusal(FormRefusal::SecondCounts, 0));
+        return HeadRead::Refused(form::refusal(FormRefusal::SecondCounts, 0));
     }
     if !form::formula_holds(q, formula(q)) {
-        return Pass::Refused(form::refusal(FormRefusal::SecondFormula, 0));
+        return HeadRead::Refused(form::refusal(FormRefusal::SecondFormula, 0));
     }
-    Pass::Holds
+    HeadRead::Head(model::counts(s))
 }
 
 // ---- rule 13, over the durations
@@ -97,10 +107,10 @@ fn read_duration(s: &[u8], q: &[u8], a: Activity) -> DurationRead
 }
 
 // Rule 13 over all activities of the model.
-fn read_durations(s: &[u8], q: &[u8]) -> Pass
+fn read_durations(s: &[u8], q: &[u8], activities: u8) -> Pass
+    requires { ⌜ activities ≡ model (now s) .activities ⌝ }
     ensures { λ r. ⌜ passNumbers r ≡ break (durationRule (model (now (s .entry))) (choice (now (q .entry)))) ⌝ }
 {
-    let activities = fields::byte(s, 7);
     let mut a: u8 = 0;
     while a < activities {
         let read = read_duration(s, q, Activity(a));
@@ -120,21 +130,28 @@ pub enum ChoiceRead {
     Refused(Refusal),
 }
 
+// Rules 8 to 13, "in list order".
+fn rules(s: &[u8], q: &[u8]) -> Pass
+    ensures { λ r. ⌜ passNumbers r ≡ firstBreak (choiceForm (model (now (s .entry))) (now (q .entry))) ⌝ }
+{
+    let first = head(s, q);
+    let HeadRead::Head(sizes) = first else {
+        return first.pass();
+    };
+    let timings = timings::read_timings(s, q, 7, sizes.threads);
+    if let Pass::Refused(_) = timings {
+        return timings;
+    }
+    read_durations(s, q, sizes.activities)
+}
+
 // Rules 8 to 13, beside the bytes of any model.
 pub fn read(s: &[u8], q: &[u8]) -> ChoiceRead
     ensures { λ r. ⌜ choiceReadNumbers r ≡ firstBreak (choiceForm (model (now (s .entry))) (now (q .entry))) ⌝ }
 {
-    let first = head(s, q);
-    if let Pass::Refused(x) = first {
-        return ChoiceRead::Refused(x);
+    let pass = rules(s, q);
+    match pass {
+        Pass::Holds => ChoiceRead::Choice,
+        Pass::Refused(x) => ChoiceRead::Refused(x),
     }
-    let timings = timings::read_timings(s, q, 7);
-    if let Pass::Refused(x) = timings {
-        return ChoiceRead::Refused(x);
-    }
-    let durations = read_durations(s, q);
-    if let Pass::Refused(x) = durations {
-        return ChoiceRead::Refused(x);
-    }
-    ChoiceRead::Choice
 }

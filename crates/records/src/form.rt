@@ -1,5 +1,7 @@
-// What the rules of the three records share: a refusal's place, the tests of length, version and range, and a word without
-// high bits.
+// What the rules of the three records share: a refusal's place, the answer of a second record's head, the tests of length,
+// version and range, and a word without high bits.
+use crate::Pass;
+use crate::model::Sizes;
 use schedule::FormRefusal;
 use schedule::Place;
 use schedule::Refusal;
@@ -10,7 +12,7 @@ ghost use lib.ListN.{length};
 ghost use Rattle.schedule.specs.Fields.{field};
 ghost use Rattle.schedule.specs.Model.{within};
 ghost use Rattle.schedule.specs.Numbers.{formNumber, refusalNumbers};
-ghost use Rattle.records.specs.Reads.{refusalIn};
+ghost use Rattle.records.specs.Reads.{refusalIn, refusalOf, passNumbers, headReadNumbers};
 ghost use Rattle.records.specs.Rows.{countsHold, noneFrom};
 
 // "A refusal answers its number, A and B", B not named.
@@ -18,6 +20,24 @@ pub(crate) fn refusal(why: FormRefusal, a: u32) -> Refusal
     ensures { λ r. ⌜ refusalNumbers r ≡ refusalIn (formNumber why) a ⌝ }
 {
     Refusal::Form(why, Place { a, b: 0 })
+}
+
+// What reading the head of a choice or a plan answers: the model's sizes, with which the rows are read.
+pub(crate) enum HeadRead {
+    Head(Sizes),
+    Refused(Refusal),
+}
+
+impl HeadRead {
+    // The refusal that it carries, if it does.
+    pub(crate) fn pass(self) -> Pass
+        ensures { λ r. ⌜ passNumbers r ≡ refusalOf (headReadNumbers self) ⌝ }
+    {
+        match self {
+            HeadRead::Head(_) => Pass::Holds,
+            HeadRead::Refused(x) => Pass::Refused(x),
+        }
+    }
 }
 
 // At least k bytes, and the length field says how many.

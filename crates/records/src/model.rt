@@ -2,18 +2,32 @@
 // 1..4096). Then n thread rows of 10 bytes .. Then m activity rows of 15 bytes".
 use crate::Pass;
 use crate::form;
-use schedule::Activity;
+use crate::plan::Timing;
 use schedule::FormRefusal;
 use schedule::Refusal;
-use schedule::Thread;
 ghost use mathlib.Core.Path.{_≡_};
 ghost use Rattle.schedule.specs.Rule.{break, firstBreak};
 ghost use Rattle.schedule.specs.Answers.{answer};
 ghost use Rattle.schedule.specs.Model.{model, modelForm, modelLength, threadRule, activityRule, maskRule};
 ghost use Rattle.records.specs.Rows.{sizesOf, threadRowOf, activityRowOf};
-ghost use Rattle.records.specs.Rows.{limitsHold, threadHolds, activityHolds, masksHold};
+ghost use Rattle.records.specs.Rows.{limitsHold, threadHolds, activityHolds, masksHold, timingHolds};
 ghost use Rattle.records.specs.Reads.{rowAnswer, refusalOf, passNumbers, modelHead};
 ghost use Rattle.records.specs.Reads.{threadReadNumbers, activityReadNumbers, modelReadNumbers};
+
+// "A thread number and an activity number are separate countings: priority is looked up by an activity's thread." Only this
+// file makes a Thread, so that elsewhere one comes out of an activity's row and from nowhere else.
+pub struct Thread(u8);
+
+pub struct Activity(pub u8);
+
+impl Thread {
+    // Its number, for the rows of release and period.
+    pub(crate) fn number(self) -> u8
+        ensures { λ r. ⌜ r ≡ self .0 ⌝ }
+    {
+        self.0
+    }
+}
 
 // The counts at the head of a model.
 pub struct Sizes {
@@ -111,23 +125,24 @@ fn formula(x: Sizes) -> u32
     10 + 10 * (x.threads as u32) + 15 * (x.activities as u32)
 }
 
-// Rules 1 to 4, "in list order".
-fn head(s: &[u8]) -> Pass
-    ensures { λ r. ⌜ passNumbers r ≡ firstBreak (modelHead (now (s .entry))) ⌝ }
+// Rules 1 to 4, "in list order": the sizes with which the rows are read.
+fn head(s: &[u8]) -> ModelRead
+    ensures { λ r. ⌜ modelReadNumbers r ≡ answer (firstBreak (modelHead (now (s .entry)))) (sizesOf (model (now (s .entry)))) ⌝ }
 {
     if !form::length_holds(s, 10) {
-        return Pass::Refused(form::refusal(FormRefusal::ModelSize, 0));
+        return ModelRead::Refused(form::refusal(FormRefusal::ModelSize, 0));
     }
     if !form::version_holds(s) {
-        return Pass::Refused(form::refusal(FormRefusal::ModelVersion, 0));
+        return ModelRead::Refused(form::refusal(FormRefusal::ModelVersion, 0));
     }
-    if !limits_hold(counts(s)) {
-        return Pass::Refused(form::refusal(FormRefusal::ModelLimits, 0));
+    let sizes = counts(s);
+    if !limits_hold(sizes) {
+        return ModelRead::Refused(form::refusal(FormRefusal::ModelLimits, 0));
     }
-    if !form::formula_holds(s, formula(counts(s))) {
-        return Pass::Refused(form::refusal(FormRefusal::ModelFormula, 0));
+    if !form::formula_holds(s, formula(sizes)) {
+        return ModelRead::Refused(form::refusal(FormRefusal::ModelFormula, 0));
     }
-    Pass::Holds
+    ModelRead::Model(sizes)
 }
 
 // ---- rule 5, over the thread rows
@@ -182,10 +197,10 @@ fn read_thread(s: &[u8], j: Thread) -> ThreadRead
 }
 
 // Rule 5 over all thread rows.
-fn read_threads(s: &[u8]) -> Pass
+fn read_threads(s: &[u8], threads: u8) -> Pass
+    requires { ⌜ threads ≡ model (now s) .threads ⌝ }
     ensures { λ r. ⌜ passNumbers r ≡ break (threadRule (model (now (s .entry)))) ⌝ }
 {
-    let threads = fields::byte(s, 6);
     let mut j: u8 = 0;
     while j < threads {
         let read = read_thread(s, Thread(j));
@@ -195,6 +210,17 @@ fn read_threads(s: &[u8]) -> Pass
         j += 1;
     }
     Pass::Holds
+}
+
+// Rule 12 of thread j, by its number among all: "release or period outside the model's range".
+pub(crate) fn in_range(s: &[u8], j: u8, x: Timing) -> bool
+    ensures { λ r. ⌜ r ≡ timingHolds (threadRowOf (model (now (s .entry))) j) x ⌝ }
+{
+    let range = thread_row(s, Thread(j));
+    if !form::within(range.least_release, range.most_release, x.release) {
+        return false;
+    }
+    form::within(range.least_period, range.most_period, x.period)
 }
 
 // ---- rules 6 and 7, over the activity rows
@@ -246,10 +272,10 @@ fn read_activity(s: &[u8], a: Activity) -> ActivityRead
 }
 
 // Rule 6 over all activity rows.
-fn read_activities(s: &[u8]) -> Pass
+fn read_activities(s: &[u8], activities: u8) -> Pass
+    requires { ⌜ activities ≡ model (now s) .activities ⌝ }
     ensures { λ r. ⌜ passNumbers r ≡ break (activityRule (model (now (s .entry)))) ⌝ }
 {
-    let activities = fields::byte(s, 7);
     let mut a: u8 = 0;
     while a < activities {
         let read = read_activity(s, Activity(a));
@@ -286,10 +312,10 @@ fn read_masks(s: &[u8], a: Activity) -> ActivityRead
 }
 
 // Rule 7 over all activity rows, after rule 6.
-fn read_all_masks(s: &[u8]) -> Pass
+fn read_all_masks(s: &[u8], activities: u8) -> Pass
+    requires { ⌜ activities ≡ model (now s) .activities ⌝ }
     ensures { λ r. ⌜ passNumbers r ≡ break (maskRule (model (now (s .entry)))) ⌝ }
 {
-    let activities = fields::byte(s, 7);
     let mut a: u8 = 0;
     while a < activities {
         let read = read_masks(s, Activity(a));
@@ -314,20 +340,20 @@ pub fn read(s: &[u8]) -> ModelRead
     ensures { λ r. ⌜ modelReadNumbers r ≡ answer (firstBreak (modelForm (now (s .entry)))) (sizesOf (model (now (s .entry)))) ⌝ }
 {
     let first = head(s);
-    if let Pass::Refused(x) = first {
-        return ModelRead::Refused(x);
-    }
-    let threads = read_threads(s);
+    let ModelRead::Model(sizes) = first else {
+        return first;
+    };
+    let threads = read_threads(s, sizes.threads);
     if let Pass::Refused(x) = threads {
         return ModelRead::Refused(x);
     }
-    let activities = read_activities(s);
+    let activities = read_activities(s, sizes.activities);
     if let Pass::Refused(x) = activities {
         return ModelRead::Refused(x);
     }
-    let masks = read_all_masks(s);
+    let masks = read_all_masks(s, sizes.activities);
     if let Pass::Refused(x) = masks {
         return ModelRead::Refused(x);
     }
-    ModelRead::Model(counts(s))
+    ModelRead::Model(sizes)
 }

@@ -2,17 +2,20 @@
 // bytes".
 use crate::Pass;
 use crate::form;
+use crate::form::HeadRead;
+use crate::model;
+use crate::model::Activity;
+use crate::model::Thread;
 use crate::timings;
-use schedule::Activity;
 use schedule::FormRefusal;
 use schedule::Refusal;
-use schedule::Thread;
 ghost use mathlib.Core.Path.{_≡_};
 ghost use Rattle.schedule.specs.Rule.{break, firstBreak};
 ghost use Rattle.schedule.specs.Model.{model};
 ghost use Rattle.schedule.specs.Plan.{plan, planForm, planLength, wordRule};
-ghost use Rattle.records.specs.Rows.{timing, spanOf, horizonHolds};
-ghost use Rattle.records.specs.Reads.{rowAnswer, refusalOf, passNumbers, planHead};
+ghost use Rattle.schedule.specs.Answers.{answer};
+ghost use Rattle.records.specs.Rows.{sizesOf, timing, spanOf, horizonHolds};
+ghost use Rattle.records.specs.Reads.{rowAnswer, refusalOf, passNumbers, headReadNumbers, planHead};
 ghost use Rattle.records.specs.Reads.{wordReadNumbers, planReadNumbers};
 
 // A thread's row.
@@ -27,9 +30,16 @@ pub struct Span {
     pub end: u16,
 }
 
-// Thread row j of a plan, of any bytes.
+// The row of an activity's thread in a plan, of any bytes.
 pub fn thread_row(r: &[u8], j: Thread) -> Timing
     ensures { λ x. ⌜ x ≡ timing (plan (now (r .entry)) .release (j .0)) (plan (now (r .entry)) .period (j .0)) ⌝ }
+{
+    timings::row(r, 9, j.number())
+}
+
+// Thread row j of a plan, of any bytes, for a walk over all: release and period, and no priority.
+pub fn timing_at(r: &[u8], j: u8) -> Timing
+    ensures { λ x. ⌜ x ≡ timing (plan (now (r .entry)) .release j) (plan (now (r .entry)) .period j) ⌝ }
 {
     timings::row(r, 9, j)
 }
@@ -83,22 +93,23 @@ fn formula(r: &[u8]) -> u32
 }
 
 // Rules 8 to 11, "in list order".
-fn head(s: &[u8], r: &[u8]) -> Pass
-    ensures { λ x. ⌜ passNumbers x ≡ firstBreak (planHead (model (now (s .entry))) (now (r .entry))) ⌝ }
+fn head(s: &[u8], r: &[u8]) -> HeadRead
+    ensures { λ x. ⌜ headReadNumbers x
+        ≡ answer (firstBreak (planHead (model (now (s .entry))) (now (r .entry)))) (sizesOf (model (now (s .entry)))) ⌝ }
 {
     if !form::length_holds(r, 9) {
-        return Pass::Refused(form::refusal(FormRefusal::SecondSize, 0));
+        return HeadRead::Refused(form::refusal(FormRefusal::SecondSize, 0));
     }
     if !form::version_holds(r) {
-        return Pass::Refused(form::refusal(FormRefusal::SecondVersion, 0));
+        return HeadRead::Refused(form::refusal(FormRefusal::SecondVersion, 0));
     }
     if !counts_hold(s, r) {
-        return Pass::Refused(form::refusal(FormRefusal::SecondCounts, 0));
+        return HeadRead::Refused(form::refusal(FormRefusal::SecondCounts, 0));
     }
     if !form::formula_holds(r, formula(r)) {
-        return Pass::Refused(form::refusal(FormRefusal::SecondFormula, 0));
+        return HeadRead::Refused(form::refusal(FormRefusal::SecondFormula, 0));
     }
-    Pass::Holds
+    HeadRead::Head(model::counts(s))
 }
 
 // ---- rule 14, over the ticks
@@ -135,10 +146,10 @@ fn read_word(s: &[u8], r: &[u8], t: u16) -> WordRead
 }
 
 // Rule 14 over all ticks of the model.
-fn read_words(s: &[u8], r: &[u8]) -> Pass
+fn read_words(s: &[u8], r: &[u8], horizon: u16) -> Pass
+    requires { ⌜ horizon ≡ model (now s) .horizon ⌝ }
     ensures { λ x. ⌜ passNumbers x ≡ break (wordRule (model (now (s .entry))) (plan (now (r .entry)))) ⌝ }
 {
-    let horizon = fields::be16(s, 8);
     let mut t: u16 = 0;
     while t < horizon {
         let read = read_word(s, r, t);
@@ -158,21 +169,28 @@ pub enum PlanRead {
     Refused(Refusal),
 }
 
+// Rules 8 to 12 and 14, "in list order".
+fn rules(s: &[u8], r: &[u8]) -> Pass
+    ensures { λ x. ⌜ passNumbers x ≡ firstBreak (planForm (model (now (s .entry))) (now (r .entry))) ⌝ }
+{
+    let first = head(s, r);
+    let HeadRead::Head(sizes) = first else {
+        return first.pass();
+    };
+    let timings = timings::read_timings(s, r, 9, sizes.threads);
+    if let Pass::Refused(_) = timings {
+        return timings;
+    }
+    read_words(s, r, sizes.horizon)
+}
+
 // Rules 8 to 12 and 14, beside the bytes of any model.
 pub fn read(s: &[u8], r: &[u8]) -> PlanRead
     ensures { λ x. ⌜ planReadNumbers x ≡ firstBreak (planForm (model (now (s .entry))) (now (r .entry))) ⌝ }
 {
-    let first = head(s, r);
-    if let Pass::Refused(x) = first {
-        return PlanRead::Refused(x);
+    let pass = rules(s, r);
+    match pass {
+        Pass::Holds => PlanRead::Plan,
+        Pass::Refused(x) => PlanRead::Refused(x),
     }
-    let timings = timings::read_timings(s, r, 9);
-    if let Pass::Refused(x) = timings {
-        return PlanRead::Refused(x);
-    }
-    let words = read_words(s, r);
-    if let Pass::Refused(x) = words {
-        return PlanRead::Refused(x);
-    }
-    PlanRead::Plan
 }

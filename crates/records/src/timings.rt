@@ -2,23 +2,20 @@
 use crate::Pass;
 use crate::form;
 use crate::model;
-use crate::model::ThreadRow;
 use crate::plan::Timing;
 use schedule::FormRefusal;
 use schedule::Refusal;
-use schedule::Thread;
 ghost use mathlib.Core.Path.{_≡_};
 ghost use Rattle.schedule.specs.Rule.{break};
 ghost use Rattle.schedule.specs.Model.{model};
-ghost use Rattle.records.specs.Rows.{timingAt, timingHolds, timingRule};
+ghost use Rattle.records.specs.Rows.{timingAt, timingRule};
 ghost use Rattle.records.specs.Reads.{rowAnswer, refusalOf, passNumbers, timingReadNumbers};
 
 // Row j of the rows that begin at a position, of any bytes.
-pub(crate) fn row(r: &[u8], first: u8, j: Thread) -> Timing
-    ensures { λ x. ⌜ x ≡ timingAt (now (r .entry)) first (j .0) ⌝ }
+pub(crate) fn row(r: &[u8], first: u8, j: u8) -> Timing
+    ensures { λ x. ⌜ x ≡ timingAt (now (r .entry)) first j ⌝ }
 {
-    let number = j.0;
-    let at = (first as usize) + 4 * (number as usize);
+    let at = (first as usize) + 4 * (j as usize);
     Timing {
         release: fields::be16(r, at),
         period: fields::be16(r, at + 2),
@@ -43,39 +40,27 @@ impl TimingRead {
     }
 }
 
-// "release or period outside the model's range"
-fn timing_holds(range: ThreadRow, x: Timing) -> bool
-    ensures { λ r. ⌜ r ≡ timingHolds range x ⌝ }
-{
-    if !form::within(range.least_release, range.most_release, x.release) {
-        return false;
-    }
-    form::within(range.least_period, range.most_period, x.period)
-}
-
 // Thread j's row, or its refusal by rule 12.
-fn read_timing(s: &[u8], r: &[u8], first: u8, j: Thread) -> TimingRead
+fn read_timing(s: &[u8], r: &[u8], first: u8, j: u8) -> TimingRead
     ensures { λ x. ⌜ timingReadNumbers x
-        ≡ rowAnswer (timingRule (model (now (s .entry))) (now (r .entry)) first) (j .0)
-        (timingAt (now (r .entry)) first (j .0)) ⌝ }
+        ≡ rowAnswer (timingRule (model (now (s .entry))) (now (r .entry)) first) j (timingAt (now (r .entry)) first j) ⌝ }
 {
-    let number = j.0;
     let timing = row(r, first, j);
-    if timing_holds(model::thread_row(s, j), timing) {
+    if model::in_range(s, j, timing) {
         TimingRead::Row(timing)
     } else {
-        TimingRead::Refused(form::refusal(FormRefusal::ThreadChoice, number as u32))
+        TimingRead::Refused(form::refusal(FormRefusal::ThreadChoice, j as u32))
     }
 }
 
 // Rule 12 over all threads of the model.
-pub(crate) fn read_timings(s: &[u8], r: &[u8], first: u8) -> Pass
+pub(crate) fn read_timings(s: &[u8], r: &[u8], first: u8, threads: u8) -> Pass
+    requires { ⌜ threads ≡ model (now s) .threads ⌝ }
     ensures { λ x. ⌜ passNumbers x ≡ break (timingRule (model (now (s .entry))) (now (r .entry)) first) ⌝ }
 {
-    let threads = fields::byte(s, 6);
     let mut j: u8 = 0;
     while j < threads {
-        let read = read_timing(s, r, first, Thread(j));
+        let read = read_timing(s, r, first, j);
         let TimingRead::Row(_) = read else {
             return read.pass();
         };

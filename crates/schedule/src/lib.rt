@@ -1,10 +1,5 @@
 // The grid checker: what its calls answer. specs/Numbers.antt gives the paper's number and values for each case.
 
-// "A thread number and an activity number are separate countings": priority is looked up by a Thread only.
-pub struct Thread(pub u8);
-
-pub struct Activity(pub u8);
-
 // "A and B are the place", 0 where none is named.
 pub struct Place {
     pub a: u32,

@@ -19,9 +19,6 @@ Inv-loop s q activities a₀ a = (a ≤ activities) × ClearTo (durationRule (mo
 abbrev μ-loop : tie.MeasureT-loop
 μ-loop s q activities a₀ a = activities - a
 
-byte-requires : tie.Need-byte-requires Inv-loop μ-loop
-byte-requires c κs = search needs
-
 loop-holds : tie.Need-loop-holds Inv-loop μ-loop
 loop-holds c = (omega arith, clear-start _)
 
@@ -38,9 +35,9 @@ pass-requires : tie.Need-pass-requires Inv-loop μ-loop
 pass-requires c κs = search needs
 
 returns : tie.Need-returns Inv-loop μ-loop
-unfolding durationRule model
+unfolding durationRule
 returns c =
-    let args = c .before .before .before .before .before .before .before .before .before .args in
+    let args = c .before .before .before .before .before .before .before .before .args in
     let s = args .s .now in
     let q = args .q .now in
     let rule = durationRule (model s) (choice q) in
@@ -59,7 +56,7 @@ loop-less c = omega arith
 loop-again : tie.Need-loop-again Inv-loop μ-loop
 unfolding durationRule
 loop-again c =
-    let args = c .before .before .before .before .before .before .before .before .args in
+    let args = c .before .before .before .before .before .before .before .args in
     let s = args .s .now in
     let q = args .q .now in
     let rule = durationRule (model s) (choice q) in
@@ -71,9 +68,9 @@ loop-again c =
     )
 
 returns-2 : tie.Need-returns-2 Inv-loop μ-loop
-unfolding durationRule model
+unfolding durationRule
 returns-2 c =
-    let args = c .before .before .before .before .before .args in
+    let args = c .before .before .before .before .args in
     let s = args .s .now in
     let q = args .q .now in
     let rule = durationRule (model s) (choice q) in
@@ -85,7 +82,6 @@ read-durations-spec =
     (tie.spec
     Inv-loop
     μ-loop
-    byte-requires
     loop-holds
     read-duration-requires
     enum-told

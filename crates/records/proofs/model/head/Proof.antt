@@ -1,8 +1,8 @@
 -- `model::head` meets its contract: each way out has the tests that led there, in the order of the rules.
 -- Assumes nothing.
-use mathlib.Core.Option.{some}
 use mathlib.Core.Path.{ap, _∙_}
 use lib.Dec.{eqb}
+use Rattle.schedule.specs.Answers.{accepted, refused, answer}
 use Rattle.records.specs.Rows.{limitsHold}
 use Rattle.records.proofs.Forms.{model-head, modelWanted}
 use Rattle.records.proofs.Reading.{told-no, told-yes}
@@ -17,11 +17,12 @@ refusal-requires : tie.Need-refusal-requires
 refusal-requires c κs = search needs
 
 returns : tie.Need-returns
+unfolding answer
 returns c =
     rw (
       model-head,
       told-no (c .before .before .length-holds .ensures) (c .before .if1 .taken),
-    ) (ap some (c .refusal .ensures))
+    ) (ap refused (c .refusal .ensures))
 
 version-holds-requires : tie.Need-version-holds-requires
 version-holds-requires c κs = search needs
@@ -30,12 +31,13 @@ refusal-requires-2 : tie.Need-refusal-requires-2
 refusal-requires-2 c κs = search needs
 
 returns-2 : tie.Need-returns-2
+unfolding answer
 returns-2 c =
     rw (
       model-head,
       told-yes (c .before .before .before .before .length-holds .ensures) (c .before .before .before .if1 .left),
       told-no (c .before .before .version-holds .ensures) (c .before .if2 .taken),
-    ) (ap some (c .refusal2 .ensures))
+    ) (ap refused (c .refusal2 .ensures))
 
 counts-requires : tie.Need-counts-requires
 counts-requires c κs = search needs
@@ -47,6 +49,7 @@ refusal-requires-3 : tie.Need-refusal-requires-3
 refusal-requires-3 c κs = search needs
 
 returns-3 : tie.Need-returns-3
+unfolding answer
 returns-3 c =
     rw (
       model-head,
@@ -59,10 +62,7 @@ returns-3 c =
       told-no
           (c .before .before .limits-hold .ensures ∙ ap limitsHold (c .before .before .before .counts .ensures))
           (c .before .if3 .taken),
-    ) (ap some (c .refusal3 .ensures))
-
-counts-requires-2 : tie.Need-counts-requires-2
-counts-requires-2 c κs = search needs
+    ) (ap refused (c .refusal3 .ensures))
 
 formula-requires : tie.Need-formula-requires
 formula-requires c κs = search needs
@@ -74,40 +74,36 @@ refusal-requires-4 : tie.Need-refusal-requires-4
 refusal-requires-4 c κs = search needs
 
 returns-4 : tie.Need-returns-4
+unfolding answer
 returns-4 c =
+    let c5 = c .before .before .before .before .before in
+    let c9 = c5 .before .before .before .before in
+    let counts = c5 .before .counts .ensures in
     rw (
       model-head,
-      told-yes
-          (c .before .before .before .before .before .before .before .before .before .before .before .length-holds .ensures)
-          (c .before .before .before .before .before .before .before .before .before .before .if1 .left),
-      told-yes
-          (c .before .before .before .before .before .before .before .before .before .version-holds .ensures)
-          (c .before .before .before .before .before .before .before .before .if2 .left),
-      told-yes
-          (c .before .before .before .before .before .before .limits-hold .ensures ∙ ap limitsHold (c .before .before .before .before .before .before .before .counts .ensures))
-          (c .before .before .before .before .before .if3 .left),
+      told-yes (c9 .before .length-holds .ensures) (c9 .if1 .left),
+      told-yes (c5 .before .before .before .version-holds .ensures) (c5 .before .before .if2 .left),
+      told-yes (c5 .limits-hold .ensures ∙ ap limitsHold counts) (c .before .before .before .before .if3 .left),
       told-no
-          (c .before .before .formula-holds .ensures ∙ ap (eqb _) (c .before .before .before .formula .ensures ∙ ap modelWanted (c .before .before .before .before .counts2 .ensures)))
+          (c .before .before .formula-holds .ensures ∙ ap (eqb _) (c .before .before .before .formula .ensures ∙ ap modelWanted counts))
           (c .before .if4 .taken),
-    ) (ap some (c .refusal4 .ensures))
+    ) (ap refused (c .refusal4 .ensures))
 
 returns-5 : tie.Need-returns-5
+unfolding answer
 returns-5 c =
+    let c4 = c .before .before .before .before in
+    let c8 = c4 .before .before .before .before in
+    let counts = c4 .before .counts .ensures in
     rw (
       model-head,
+      told-yes (c8 .before .length-holds .ensures) (c8 .if1 .left),
+      told-yes (c4 .before .before .before .version-holds .ensures) (c4 .before .before .if2 .left),
+      told-yes (c4 .limits-hold .ensures ∙ ap limitsHold counts) (c .before .before .before .if3 .left),
       told-yes
-          (c .before .before .before .before .before .before .before .before .before .before .length-holds .ensures)
-          (c .before .before .before .before .before .before .before .before .before .if1 .left),
-      told-yes
-          (c .before .before .before .before .before .before .before .before .version-holds .ensures)
-          (c .before .before .before .before .before .before .before .if2 .left),
-      told-yes
-          (c .before .before .before .before .before .limits-hold .ensures ∙ ap limitsHold (c .before .before .before .before .before .before .counts .ensures))
-          (c .before .before .before .before .if3 .left),
-      told-yes
-          (c .before .formula-holds .ensures ∙ ap (eqb _) (c .before .before .formula .ensures ∙ ap modelWanted (c .before .before .before .counts2 .ensures)))
+          (c .before .formula-holds .ensures ∙ ap (eqb _) (c .before .before .formula .ensures ∙ ap modelWanted counts))
           (c .if4 .left),
-    )
+    ) (ap accepted counts)
 
 pub head-spec : {M : Type 1} → statement M
 head-spec =
@@ -123,7 +119,6 @@ head-spec =
     limits-hold-requires
     refusal-requires-3
     returns-3
-    counts-requires-2
     formula-requires
     formula-holds-requires
     refusal-requires-4

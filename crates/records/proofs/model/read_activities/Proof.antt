@@ -19,9 +19,6 @@ Inv-loop s activities a₀ a = (a ≤ activities) × ClearTo (activityRule (mode
 abbrev μ-loop : tie.MeasureT-loop
 μ-loop s activities a₀ a = activities - a
 
-byte-requires : tie.Need-byte-requires Inv-loop μ-loop
-byte-requires c κs = search needs
-
 loop-holds : tie.Need-loop-holds Inv-loop μ-loop
 loop-holds c = (omega arith, clear-start _)
 
@@ -38,9 +35,9 @@ pass-requires : tie.Need-pass-requires Inv-loop μ-loop
 pass-requires c κs = search needs
 
 returns : tie.Need-returns Inv-loop μ-loop
-unfolding activityRule model
+unfolding activityRule
 returns c =
-    let m = model (c .before .before .before .before .before .before .before .before .args .s .now) in
+    let m = model (c .before .before .before .before .before .before .before .args .s .now) in
     let at = c .before .before .before .before .before .loop in
     c .pass .ensures
     ∙ row-refused (activityRule m) (at .a) (activityRowOf m (at .a)) _ _ refl (at .inv .1) (omega arith)
@@ -56,7 +53,7 @@ loop-less c = omega arith
 loop-again : tie.Need-loop-again Inv-loop μ-loop
 unfolding activityRule
 loop-again c =
-    let m = model (c .before .before .before .before .before .before .before .args .s .now) in
+    let m = model (c .before .before .before .before .before .before .args .s .now) in
     let at = c .before .before .before .before .loop in (
       omega arith,
       row-taken (activityRule m) (at .a) (activityRowOf m (at .a)) _ refl (at .inv .1)
@@ -65,8 +62,8 @@ loop-again c =
     )
 
 returns-2 : tie.Need-returns-2 Inv-loop μ-loop
-unfolding activityRule model
-returns-2 c = sym (rows-end (activityRule (model (c .before .before .before .before .args .s .now))) _ (omega arith) (c .before .loop .inv .1))
+unfolding activityRule
+returns-2 c = sym (rows-end (activityRule (model (c .before .before .before .args .s .now))) _ (omega arith) (c .before .loop .inv .1))
 
 pub read-activities-spec : {M : Type 1} → statement M
 read-activities-spec =
@@ -74,7 +71,6 @@ read-activities-spec =
     (tie.spec
     Inv-loop
     μ-loop
-    byte-requires
     loop-holds
     read-activity-requires
     enum-told

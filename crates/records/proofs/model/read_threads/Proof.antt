@@ -19,9 +19,6 @@ Inv-loop s threads j₀ j = (j ≤ threads) × ClearTo (threadRule (model s)) j
 abbrev μ-loop : tie.MeasureT-loop
 μ-loop s threads j₀ j = threads - j
 
-byte-requires : tie.Need-byte-requires Inv-loop μ-loop
-byte-requires c κs = search needs
-
 loop-holds : tie.Need-loop-holds Inv-loop μ-loop
 loop-holds c = (omega arith, clear-start _)
 
@@ -38,9 +35,9 @@ pass-requires : tie.Need-pass-requires Inv-loop μ-loop
 pass-requires c κs = search needs
 
 returns : tie.Need-returns Inv-loop μ-loop
-unfolding threadRule model
+unfolding threadRule
 returns c =
-    let m = model (c .before .before .before .before .before .before .before .before .args .s .now) in
+    let m = model (c .before .before .before .before .before .before .before .args .s .now) in
     let at = c .before .before .before .before .before .loop in
     c .pass .ensures
     ∙ row-refused (threadRule m) (at .j) (threadRowOf m (at .j)) _ _ refl (at .inv .1) (omega arith)
@@ -56,7 +53,7 @@ loop-less c = omega arith
 loop-again : tie.Need-loop-again Inv-loop μ-loop
 unfolding threadRule
 loop-again c =
-    let m = model (c .before .before .before .before .before .before .before .args .s .now) in
+    let m = model (c .before .before .before .before .before .before .args .s .now) in
     let at = c .before .before .before .before .loop in (
       omega arith,
       row-taken (threadRule m) (at .j) (threadRowOf m (at .j)) _ refl (at .inv .1)
@@ -65,8 +62,8 @@ loop-again c =
     )
 
 returns-2 : tie.Need-returns-2 Inv-loop μ-loop
-unfolding threadRule model
-returns-2 c = sym (rows-end (threadRule (model (c .before .before .before .before .args .s .now))) _ (omega arith) (c .before .loop .inv .1))
+unfolding threadRule
+returns-2 c = sym (rows-end (threadRule (model (c .before .before .before .args .s .now))) _ (omega arith) (c .before .loop .inv .1))
 
 pub read-threads-spec : {M : Type 1} → statement M
 read-threads-spec =
@@ -74,7 +71,6 @@ read-threads-spec =
     (tie.spec
     Inv-loop
     μ-loop
-    byte-requires
     loop-holds
     read-thread-requires
     enum-told

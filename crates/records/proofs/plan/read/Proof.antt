@@ -1,91 +1,25 @@
--- `plan::read` meets its contract: the passes that held have no break, and the first that did not gives the answer.
+-- `plan::read` meets its contract: the answer says what the pass over the rules says.
 -- Assumes nothing.
 use mathlib.Core.Path.{sym, ap, _∙_}
-use Rattle.records.specs.Reads.{passNumbers}
-use Rattle.records.proofs.Forms.{plan-form}
 use borrow.Author.Needs.{needs}
+use Rattle.records.specs.Reads.{passNumbers}
 use Rattle.records.proofs.plan.read.Statement.{statement}
 use Rattle.records.proofs.plan.read.Tie as tie
 
-head-requires : tie.Need-head-requires
-head-requires c κs = search needs
-
-enum-known-first : tie.Need-enum-known-first
-enum-known-first c = search needs
-
-returns : tie.Need-returns
-returns c =
-    rw (
-      plan-form,
-      sym (c .before .before .before .head .ensures) ∙ ap passNumbers (c .before .first .given .1),
-    )
+rules-requires : tie.Need-rules-requires
+rules-requires c κs = search needs
 
 enum-told : tie.Need-enum-told
 enum-told c = search needs
 
-read-timings-requires : tie.Need-read-timings-requires
-read-timings-requires c κs = search needs
+enum-known-pass : tie.Need-enum-known-pass
+enum-known-pass c = search needs
 
-enum-known-timings : tie.Need-enum-known-timings
-enum-known-timings c = search needs
+returns : tie.Need-returns
+returns c = sym (ap passNumbers (c .enum-told .given .1)) ∙ c .before .before .rules .ensures
 
 returns-2 : tie.Need-returns-2
-returns-2 c =
-    rw (
-      plan-form,
-      sym (c .before .before .before .before .before .before .head .ensures)
-          ∙ ap passNumbers (c .before .before .before .before .enum-told .given .1),
-      sym (c .before .before .before .read-timings .ensures) ∙ ap passNumbers (c .before .timings .given .1),
-    )
-
-enum-told-2 : tie.Need-enum-told-2
-enum-told-2 c = search needs
-
-read-words-requires : tie.Need-read-words-requires
-read-words-requires c κs = search needs
-
-enum-known-words : tie.Need-enum-known-words
-enum-known-words c = search needs
-
-returns-3 : tie.Need-returns-3
-returns-3 c =
-    rw (
-      plan-form,
-      sym (c .before .before .before .before .before .before .before .before .before .head .ensures)
-          ∙ ap passNumbers (c .before .before .before .before .before .before .before .enum-told .given .1),
-      sym (c .before .before .before .before .before .before .read-timings .ensures)
-          ∙ ap passNumbers (c .before .before .before .before .enum-told2 .given .1),
-      sym (c .before .before .before .read-words .ensures) ∙ ap passNumbers (c .before .words .given .1),
-    )
-
-enum-told-3 : tie.Need-enum-told-3
-enum-told-3 c = search needs
-
-returns-4 : tie.Need-returns-4
-returns-4 c =
-    rw (
-      plan-form,
-      sym (c .before .before .before .before .before .before .before .before .head .ensures)
-          ∙ ap passNumbers (c .before .before .before .before .before .before .enum-told .given .1),
-      sym (c .before .before .before .before .before .read-timings .ensures)
-          ∙ ap passNumbers (c .before .before .before .enum-told2 .given .1),
-      sym (c .before .before .read-words .ensures) ∙ ap passNumbers (c .enum-told3 .given .1),
-    )
+returns-2 c = sym (ap passNumbers (c .before .pass .given .1)) ∙ c .before .before .before .rules .ensures
 
 pub read-spec : {M : Type 1} → statement M
-read-spec =
-    tie.close
-    (tie.spec
-    head-requires
-    enum-known-first
-    returns
-    enum-told
-    read-timings-requires
-    enum-known-timings
-    returns-2
-    enum-told-2
-    read-words-requires
-    enum-known-words
-    returns-3
-    enum-told-3
-    returns-4)
+read-spec = tie.close (tie.spec rules-requires enum-told enum-known-pass returns returns-2)

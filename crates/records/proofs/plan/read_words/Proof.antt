@@ -19,9 +19,6 @@ Inv-loop s r horizon t₀ t = (t ≤ horizon) × ClearTo (wordRule (model s) (pl
 abbrev μ-loop : tie.MeasureT-loop
 μ-loop s r horizon t₀ t = horizon - t
 
-be16-requires : tie.Need-be16-requires Inv-loop μ-loop
-be16-requires c κs = search needs
-
 loop-holds : tie.Need-loop-holds Inv-loop μ-loop
 loop-holds c = (omega arith, clear-start _)
 
@@ -38,9 +35,9 @@ pass-requires : tie.Need-pass-requires Inv-loop μ-loop
 pass-requires c κs = search needs
 
 returns : tie.Need-returns Inv-loop μ-loop
-unfolding wordRule model
+unfolding wordRule
 returns c =
-    let args = c .before .before .before .before .before .before .before .before .before .args in
+    let args = c .before .before .before .before .before .before .before .before .args in
     let s = args .s .now in
     let r = args .r .now in
     let rule = wordRule (model s) (plan r) in
@@ -59,7 +56,7 @@ loop-less c = omega arith
 loop-again : tie.Need-loop-again Inv-loop μ-loop
 unfolding wordRule
 loop-again c =
-    let args = c .before .before .before .before .before .before .before .before .args in
+    let args = c .before .before .before .before .before .before .before .args in
     let s = args .s .now in
     let r = args .r .now in
     let rule = wordRule (model s) (plan r) in
@@ -71,9 +68,9 @@ loop-again c =
     )
 
 returns-2 : tie.Need-returns-2 Inv-loop μ-loop
-unfolding wordRule model
+unfolding wordRule
 returns-2 c =
-    let args = c .before .before .before .before .before .args in
+    let args = c .before .before .before .before .args in
     let s = args .s .now in
     let r = args .r .now in
     let rule = wordRule (model s) (plan r) in
@@ -85,7 +82,6 @@ read-words-spec =
     (tie.spec
     Inv-loop
     μ-loop
-    be16-requires
     loop-holds
     read-word-requires
     enum-told

@@ -20,9 +20,6 @@ Inv-loop s r first threads j₀ j = (j ≤ threads) × ClearTo (timingRule (mode
 abbrev μ-loop : tie.MeasureT-loop
 μ-loop s r first threads j₀ j = threads - j
 
-byte-requires : tie.Need-byte-requires Inv-loop μ-loop
-byte-requires c κs = search needs
-
 loop-holds : tie.Need-loop-holds Inv-loop μ-loop
 loop-holds c = (omega arith, clear-start _)
 
@@ -39,9 +36,9 @@ pass-requires : tie.Need-pass-requires Inv-loop μ-loop
 pass-requires c κs = search needs
 
 returns : tie.Need-returns Inv-loop μ-loop
-unfolding rangeRule model
+unfolding rangeRule
 returns c =
-    let args = c .before .before .before .before .before .before .before .before .before .args in
+    let args = c .before .before .before .before .before .before .before .before .args in
     let s = args .s .now in
     let r = args .r .now in
     let first = args .first in
@@ -61,7 +58,7 @@ loop-less c = omega arith
 loop-again : tie.Need-loop-again Inv-loop μ-loop
 unfolding rangeRule
 loop-again c =
-    let args = c .before .before .before .before .before .before .before .before .args in
+    let args = c .before .before .before .before .before .before .before .args in
     let s = args .s .now in
     let r = args .r .now in
     let first = args .first in
@@ -74,9 +71,9 @@ loop-again c =
     )
 
 returns-2 : tie.Need-returns-2 Inv-loop μ-loop
-unfolding rangeRule model
+unfolding rangeRule
 returns-2 c =
-    let args = c .before .before .before .before .before .args in
+    let args = c .before .before .before .before .args in
     let s = args .s .now in
     let r = args .r .now in
     let first = args .first in
@@ -89,7 +86,6 @@ read-timings-spec =
     (tie.spec
     Inv-loop
     μ-loop
-    byte-requires
     loop-holds
     read-timing-requires
     enum-told

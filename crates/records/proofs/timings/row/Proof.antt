@@ -5,9 +5,6 @@ use borrow.Author.Needs.{needs}
 use Rattle.records.proofs.timings.row.Statement.{statement}
 use Rattle.records.proofs.timings.row.Tie as tie
 
-cast-at : tie.Need-cast-at
-cast-at c = search needs
-
 mul-at : tie.Need-mul-at
 mul-at c = search needs
 
@@ -25,8 +22,8 @@ be16-requires-2 c κs = search needs
 
 returns : tie.Need-returns
 unfolding timingAt timing
-returns c = cc
+returns c = λ i. record { release = (c .before .be16 .ensures) i; period = (c .be162 .ensures) i }
 
 pub row-spec : {M : Type 1} → statement M
 row-spec =
-    tie.close (tie.spec cast-at mul-at add-at be16-requires add-be16 be16-requires-2 returns)
+    tie.close (tie.spec mul-at add-at be16-requires add-be16 be16-requires-2 returns)
