@@ -48,12 +48,14 @@ pub term-other : (t d v : Bool) (x y : ℕ) → t ≡ false → d ≡ v → cond
 term-other t d v x y e f = sym (ap₂ (λ (b c : Bool). cond b (x + y) (cond c x 0)) e f)
 
 -- one predecessor's term, as the code reads it
-pub term-reads : (temporal by-data b done delay delay′ free : ℕ) (t d : Bool) → free ≡ cond t (done + delay) (cond d done 0)
-    → t ≡ bit temporal b → d ≡ bit by-data b → delay ≡ delay′
-    → free ≡ cond (bit temporal b) (done + delay′) (cond (bit by-data b) done 0)
-term-reads temporal by-data b done delay delay′ free t d e ht hd k =
+pub term-reads : (temporal by-data b done done′ delay delay′ free : ℕ) (t d : Bool)
+    → free ≡ cond t (done + delay) (cond d done 0)
+    → t ≡ bit temporal b → d ≡ bit by-data b → done ≡ done′ → delay ≡ delay′
+    → free ≡ cond (bit temporal b) (done′ + delay′) (cond (bit by-data b) done′ 0)
+term-reads temporal by-data b done done′ delay delay′ free t d e ht hd h k =
     e ∙ ap (λ (x : Bool). cond x (done + delay) (cond d done 0)) ht
     ∙ ap₂ (λ (y : ℕ) (x : Bool). cond (bit temporal b) (done + y) (cond x done 0)) k hd
+    ∙ ap (λ (y : ℕ). cond (bit temporal b) (y + delay′) (cond (bit by-data b) y 0)) h
 
 -- it depends on the predecessors alone, which have lower numbers
 pub after-ext : (m : Model) → Ordered m → (done other : ℕ → ℕ) (a : ℕ) → a < m .activities

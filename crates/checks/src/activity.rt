@@ -1,10 +1,11 @@
 // Rules 21 to 27, activity by activity.
 use crate::refused;
+use crate::tables::at;
 use crate::tables::end_of;
 use crate::tables::start_of;
 use crate::tables::thread_of;
 use records::Pass;
-use schedule::Activity;
+use records::model::Activity;
 use schedule::RuleRefusal;
 use ticks::on_time;
 use ticks::passed;
@@ -40,11 +41,12 @@ pub(crate) enum ActivityRule {
 }
 
 // 21 at activity a, where a word says which activities are active outside their window.
-fn window_holds(s: &[u8], r: &[u8], a: u8, outside: u32) -> bool
-    requires { ⌜ bit outside a ≡ not (noneOutside (model (now s)) (plan (now r)) a) ⌝ }
-    ensures { λ x. ⌜ x ≡ window (model (now (s .entry))) (plan (now (r .entry))) a ⌝ }
+fn window_holds(s: &[u8], r: &[u8], a: Activity, outside: u32) -> bool
+    requires { ⌜ bit outside (a .0) ≡ not (noneOutside (model (now s)) (plan (now r)) (a .0)) ⌝ }
+    ensures { λ x. ⌜ x ≡ window (model (now (s .entry))) (plan (now (r .entry))) (a .0) ⌝ }
 {
-    let row = records::plan::activity_row(r, Activity(a));
+    let number = a.0;
+    let row = records::plan::activity_row(r, a);
     let start = row.start;
     let end = row.end;
     let sizes = records::model::counts(s);
@@ -55,20 +57,21 @@ fn window_holds(s: &[u8], r: &[u8], a: u8, outside: u32) -> bool
     if horizon < end {
         return false;
     }
-    if !bits::has(records::plan::word(r, start), a as u32) {
+    if !bits::has(records::plan::word(r, start), number as u32) {
         return false;
     }
-    if !bits::has(records::plan::word(r, end - 1), a as u32) {
+    if !bits::has(records::plan::word(r, end - 1), number as u32) {
         return false;
     }
-    !bits::has(outside, a as u32)
+    !bits::has(outside, number as u32)
 }
 
 // 22 at activity a, with its count.
-fn count_holds(s: &[u8], a: u8, count: u32) -> bool
-    ensures { λ x. ⌜ x ≡ within (model (now (s .entry)) .least-duration a) (model (now (s .entry)) .most-duration a) count ⌝ }
+fn count_holds(s: &[u8], a: Activity, count: u32) -> bool
+    ensures { λ x. ⌜ x
+        ≡ within (model (now (s .entry)) .least-duration (a .0)) (model (now (s .entry)) .most-duration (a .0)) count ⌝ }
 {
-    let row = records::model::activity_row(s, Activity(a));
+    let row = records::model::activity_row(s, a);
     if count < (row.least_duration as u32) {
         return false;
     }
@@ -76,11 +79,13 @@ fn count_holds(s: &[u8], a: u8, count: u32) -> bool
 }
 
 // 23 at activity a.
-fn deadline_holds(s: &[u8], r: &[u8], a: u8) -> bool
-    ensures { λ x. ⌜ x ≡ (not (eqb (plan (now (r .entry)) .period (model (now (s .entry)) .thread a)) 0) ⇒ leb (plan (now (r .entry)) .end a) (plan (now (r .entry)) .period (model (now (s .entry)) .thread a))) ⌝ }
+fn deadline_holds(s: &[u8], r: &[u8], a: Activity) -> bool
+    ensures { λ x. ⌜ x
+        ≡ (not (eqb (plan (now (r .entry)) .period (model (now (s .entry)) .thread (a .0))) 0)
+        ⇒ leb (plan (now (r .entry)) .end (a .0)) (plan (now (r .entry)) .period (model (now (s .entry)) .thread (a .0)))) ⌝ }
 {
-    let row = records::plan::thread_row(r, thread_of(s, Activity(a)));
-    on_time(row.period as u32, end_of(r, Activity(a)))
+    let row = records::plan::thread_row(r, thread_of(s, a));
+    on_time(row.period as u32, end_of(r, a))
 }
 
 // Whether a start comes before a predecessor's end and delay.
@@ -95,16 +100,22 @@ fn too_early(precedes: bool, start: u32, end: u32, delay: u32) -> bool
 }
 
 // 25 and 26: the predecessors that a start comes too early after.
-fn early_mask(preceding: u32, start: u32, n: usize, ends: &[u32; 32], delays: &[u32; 32]) -> u32
+fn early_mask(preceding: u32, start: u32, n: u8, ends: &[u32; 32], delays: &[u32; 32]) -> u32
     requires { ⌜ n ≤ 32 ⌝ }
     ensures { λ x. ⌜ x ≡ earlyFrom preceding start n (now (ends .entry)) (now (delays .entry)) ⌝ }
 {
     let mut mask: u32 = 0;
-    let mut b = 0;
-    while b < n {
-        let yes = too_early(bits::has(preceding, b as u32), start, ends[b], delays[b]);
-        mask = bits::mark(mask, b as u32, yes);
-        b += 1;
+    let mut number: u8 = 0;
+    while number < n {
+        let b = Activity(number);
+        let yes = too_early(
+            bits::has(preceding, number as u32),
+            start,
+            at(ends, b),
+            at(delays, b),
+        );
+        mask = bits::mark(mask, number as u32, yes);
+        number += 1;
     }
     mask
 }
@@ -144,25 +155,24 @@ fn breaking(
     finishes: &[u32; 32],
     ends: &[u32; 32],
     delays: &[u32; 32],
-    a: u8,
+    a: Activity,
 ) -> u32
     requires { ⌜ Counted (model (now s)) (plan (now r)) outside (now counts) (now finishes) (now ends) (now delays) ⌝ }
-    requires { ⌜ a < model (now s) .activities ⌝ }
-    ensures { λ x. ⌜ x ≡ brokenMask (activityRule rule (model (now (s .entry))) (plan (now (r .entry)))) a ⌝ }
+    requires { ⌜ a .0 < model (now s) .activities ⌝ }
+    ensures { λ x. ⌜ x ≡ brokenMask (activityRule rule (model (now (s .entry))) (plan (now (r .entry)))) (a .0) ⌝ }
 {
-    let at = a as usize;
-    let row = records::model::activity_row(s, Activity(a));
+    let row = records::model::activity_row(s, a);
     let sizes = records::model::counts(s);
-    let n = sizes.activities as usize;
-    let start = start_of(r, Activity(a));
+    let n = sizes.activities;
+    let start = start_of(r, a);
     match rule {
         ActivityRule::Window => flag(window_holds(s, r, a, outside)),
-        ActivityRule::Count => flag(count_holds(s, a, counts[at])),
+        ActivityRule::Count => flag(count_holds(s, a, at(counts, a))),
         ActivityRule::Deadline => flag(deadline_holds(s, r, a)),
-        ActivityRule::Span => flag(span_holds(start, counts[at], ends[at])),
+        ActivityRule::Span => flag(span_holds(start, at(counts, a), at(ends, a))),
         ActivityRule::Temporal => early_mask(row.temporal_mask, start, n, ends, delays),
         ActivityRule::Data => early_mask(row.data_mask, start, n, ends, &[0u32; 32]),
-        ActivityRule::Eligible => flag(eligible_holds(start, counts[at], finishes[at])),
+        ActivityRule::Eligible => flag(eligible_holds(start, at(counts, a), at(finishes, a))),
     }
 }
 
@@ -212,13 +222,14 @@ pub(crate) fn over_activities(
 {
     let sizes = records::model::counts(s);
     let n = sizes.activities;
-    let mut a: u8 = 0;
-    while a < n {
+    let mut number: u8 = 0;
+    while number < n {
+        let a = Activity(number);
         let b = bits::lowest(breaking(rule, s, r, outside, counts, finishes, ends, delays, a));
         if b < 32 {
-            return refused(name(rule), a as u32, b);
+            return refused(name(rule), number as u32, b);
         }
-        a += 1;
+        number += 1;
     }
     Pass::Holds
 }

@@ -3,9 +3,8 @@ use crate::tables::end_of;
 use numbers::larger;
 use numbers::less;
 use numbers::smaller;
-use schedule::Activity;
+use records::model::Activity;
 use schedule::Figures;
-use schedule::Thread;
 ghost use mathlib.Core.Path.{_≡_};
 ghost use Rattle.schedule.specs.Bounded.{ones, total, greatest, least};
 ghost use Rattle.schedule.specs.Model.{model};
@@ -40,10 +39,10 @@ fn latest_end(r: &[u8], n: u8) -> u32
 }
 
 // The release of thread j.
-fn release_of(r: &[u8], j: Thread) -> u32
-    ensures { λ x. ⌜ x ≡ plan (now (r .entry)) .release (j .0) ⌝ }
+fn release_of(r: &[u8], j: u8) -> u32
+    ensures { λ x. ⌜ x ≡ plan (now (r .entry)) .release j ⌝ }
 {
-    let row = records::plan::thread_row(r, j);
+    let row = records::plan::timing_at(r, j);
     row.release as u32
 }
 
@@ -54,10 +53,10 @@ fn least_release(r: &[u8], n: u8) -> u32
     if n == 0 {
         return 0;
     }
-    let mut first = release_of(r, Thread(0));
+    let mut first = release_of(r, 0);
     let mut j: u8 = 1;
     while j < n {
-        first = smaller(first, release_of(r, Thread(j)));
+        first = smaller(first, release_of(r, j));
         j += 1;
     }
     first

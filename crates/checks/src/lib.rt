@@ -76,7 +76,7 @@ fn two_rules(
     ensures { λ x. ⌜ passNumbers x ≡ firstBreak (twoRules strict (model (now (s .entry))) (plan (now (r .entry)))) ⌝ }
 {
     let sizes = records::model::counts(s);
-    let masks = tables::rank_masks(sizes.activities as usize, priorities, strict);
+    let masks = tables::rank_masks(sizes.activities, priorities, strict);
     let load = over_ticks(load_rule(strict), s, r, froms, ends, &masks);
     if let Pass::Refused(_) = load {
         return load;

@@ -1,7 +1,7 @@
 // Tables of 32 numbers, by activity, that the rules are tried with: each is made once.
 use numbers::larger;
-use schedule::Activity;
-use schedule::Thread;
+use records::model::Activity;
+use records::model::Thread;
 ghost use mathlib.Core.Path.{_≡_};
 ghost use mathlib.Core.Bool.{cond};
 ghost use Prim.Native.Nat.{ℕ, _+_, _≤_, _<_, max};
@@ -19,6 +19,15 @@ pub(crate) enum Column {
     End,
     Delay,
     Priority,
+}
+
+// What a table holds for activity a.
+pub(crate) fn at(table: &[u32; 32], a: Activity) -> u32
+    requires { ⌜ a .0 < 32 ⌝ }
+    ensures { λ r. ⌜ r ≡ getD (now (table .entry)) (a .0) 0 ⌝ }
+{
+    let number = a.0;
+    table[number as usize]
 }
 
 // ---- counts
@@ -95,14 +104,14 @@ pub(crate) fn end_of(r: &[u8], a: Activity) -> u32
 }
 
 // What stands at activity a.
-fn value(column: Column, s: &[u8], r: &[u8], a: u8) -> u32
-    ensures { λ x. ⌜ x ≡ columnOf column (model (now (s .entry))) (plan (now (r .entry))) a ⌝ }
+fn value(column: Column, s: &[u8], r: &[u8], a: Activity) -> u32
+    ensures { λ x. ⌜ x ≡ columnOf column (model (now (s .entry))) (plan (now (r .entry))) (a .0) ⌝ }
 {
     match column {
-        Column::Start => start_of(r, Activity(a)),
-        Column::End => end_of(r, Activity(a)),
-        Column::Delay => delay_of(s, Activity(a)),
-        Column::Priority => priority(s, thread_of(s, Activity(a))),
+        Column::Start => start_of(r, a),
+        Column::End => end_of(r, a),
+        Column::Delay => delay_of(s, a),
+        Column::Priority => priority(s, thread_of(s, a)),
     }
 }
 
@@ -114,10 +123,10 @@ pub(crate) fn tabulate(column: Column, s: &[u8], r: &[u8]) -> [u32; 32]
     let sizes = records::model::counts(s);
     let n = sizes.activities;
     let mut table = [0u32; 32];
-    let mut a: u8 = 0;
-    while a < n {
-        table[a as usize] = value(column, s, r, a);
-        a += 1;
+    let mut number: u8 = 0;
+    while number < n {
+        table[number as usize] = value(column, s, r, Activity(number));
+        number += 1;
     }
     table
 }
@@ -125,44 +134,44 @@ pub(crate) fn tabulate(column: Column, s: &[u8], r: &[u8]) -> [u32; 32]
 // ---- who outranks whom
 
 // Whether b outranks a: by its priority or, at one priority, by its lower number.
-fn outranks(priorities: &[u32; 32], level: bool, a: usize, b: usize) -> bool
-    requires { ⌜ (a < 32) × (b < 32) ⌝ }
-    ensures { λ r. ⌜ r ≡ outranksFrom (now (priorities .entry)) level a b ⌝ }
+fn outranks(priorities: &[u32; 32], level: bool, a: Activity, b: Activity) -> bool
+    requires { ⌜ (a .0 < 32) × (b .0 < 32) ⌝ }
+    ensures { λ r. ⌜ r ≡ outranksFrom (now (priorities .entry)) level (a .0) (b .0) ⌝ }
 {
-    let own = priorities[a];
-    let other = priorities[b];
+    let own = at(priorities, a);
+    let other = at(priorities, b);
     if level {
-        if other == own { b < a } else { false }
+        if other == own { b.0 < a.0 } else { false }
     } else {
         own < other
     }
 }
 
 // The activities that outrank a.
-fn rank_mask(n: usize, priorities: &[u32; 32], level: bool, a: usize) -> u32
-    requires { ⌜ (n ≤ 32) × (a < 32) ⌝ }
-    ensures { λ r. ⌜ r ≡ wordOf n (outranksFrom (now (priorities .entry)) level a) ⌝ }
+fn rank_mask(n: u8, priorities: &[u32; 32], level: bool, a: Activity) -> u32
+    requires { ⌜ (n ≤ 32) × (a .0 < 32) ⌝ }
+    ensures { λ r. ⌜ r ≡ wordOf n (outranksFrom (now (priorities .entry)) level (a .0)) ⌝ }
 {
     let mut mask: u32 = 0;
-    let mut b = 0;
-    while b < n {
-        let yes = outranks(priorities, level, a, b);
-        mask = bits::mark(mask, b as u32, yes);
-        b += 1;
+    let mut number: u8 = 0;
+    while number < n {
+        let yes = outranks(priorities, level, a, Activity(number));
+        mask = bits::mark(mask, number as u32, yes);
+        number += 1;
     }
     mask
 }
 
 // The table of those masks: nothing outranks an activity that the model does not have.
-pub(crate) fn rank_masks(n: usize, priorities: &[u32; 32], level: bool) -> [u32; 32]
+pub(crate) fn rank_masks(n: u8, priorities: &[u32; 32], level: bool) -> [u32; 32]
     requires { ⌜ n ≤ 32 ⌝ }
     ensures { λ r. ⌜ HoldsOnly n r (λ a. wordOf n (outranksFrom (now (priorities .entry)) level a)) ⌝ }
 {
     let mut masks = [0u32; 32];
-    let mut a = 0;
-    while a < n {
-        masks[a] = rank_mask(n, priorities, level, a);
-        a += 1;
+    let mut number: u8 = 0;
+    while number < n {
+        masks[number as usize] = rank_mask(n, priorities, level, Activity(number));
+        number += 1;
     }
     masks
 }
@@ -191,17 +200,17 @@ fn after(s: &[u8], n: u8, a: Activity, delays: &[u32; 32], done: &[u32; 32]) -> 
     let temporal = row.temporal_mask;
     let by_data = row.data_mask;
     let mut latest: u32 = 0;
-    let mut b: u8 = 0;
-    while b < n {
-        let at = b as usize;
+    let mut number: u8 = 0;
+    while number < n {
+        let b = Activity(number);
         let free = let_go(
-            bits::has(temporal, b as u32),
-            bits::has(by_data, b as u32),
-            done[at],
-            delays[at],
+            bits::has(temporal, number as u32),
+            bits::has(by_data, number as u32),
+            at(done, b),
+            at(delays, b),
         );
         latest = larger(latest, free);
-        b += 1;
+        number += 1;
     }
     latest
 }
@@ -229,11 +238,11 @@ pub(crate) fn finishes(s: &[u8], r: &[u8], counts: &[u32; 32], delays: &[u32; 32
     let sizes = records::model::counts(s);
     let n = sizes.activities;
     let mut table = [0u32; 32];
-    let mut a: u8 = 0;
-    while a < n {
-        let at = a as usize;
-        table[at] = earliest(s, r, n, Activity(a), delays, &table) + counts[at];
-        a += 1;
+    let mut number: u8 = 0;
+    while number < n {
+        let a = Activity(number);
+        table[number as usize] = earliest(s, r, n, a, delays, &table) + at(counts, a);
+        number += 1;
     }
     table
 }
@@ -255,14 +264,14 @@ pub(crate) fn froms(
     let sizes = records::model::counts(s);
     let n = sizes.activities;
     let mut table = [0u32; 32];
-    let mut a: u8 = 0;
-    while a < n {
-        let at = a as usize;
-        table[at] = larger(
-            finishes[at] - counts[at],
-            after(s, n, Activity(a), delays, ends),
+    let mut number: u8 = 0;
+    while number < n {
+        let a = Activity(number);
+        table[number as usize] = larger(
+            at(finishes, a) - at(counts, a),
+            after(s, n, a, delays, ends),
         );
-        a += 1;
+        number += 1;
     }
     table
 }

@@ -10,7 +10,6 @@ use schedule::Figures;
 use schedule::Place;
 use schedule::Refusal;
 use schedule::RunRefusal;
-use schedule::Thread;
 use ticks::on_time;
 ghost use mathlib.Core.Path.{_≡_};
 ghost use mathlib.Core.Bool.{not};
@@ -78,7 +77,7 @@ pub(crate) fn judge(s: &[u8], q: &[u8], owed: &[u32; 32], ends: &[u32; 32]) -> P
     if owing < n {
         return Pass::Refused(refusal(RunRefusal::Owed, owing as u32));
     }
-    let periods = tables::table(Column::Period, n, s, q);
+    let periods = tables::table(Column::Period, sizes.activities, s, q);
     let late = first_late(n, &periods, ends);
     if late < n {
         return Pass::Refused(refusal(RunRefusal::Late, late as u32));
@@ -118,7 +117,7 @@ fn greatest_end(n: usize, ends: &[u32; 32]) -> u32
 fn release(q: &[u8], j: u8) -> u32
     ensures { λ r. ⌜ r ≡ choice (now (q .entry)) .release j ⌝ }
 {
-    let row = records::choice::thread_row(q, Thread(j));
+    let row = records::choice::timing_at(q, j);
     row.release as u32
 }
 

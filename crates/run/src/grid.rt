@@ -23,16 +23,17 @@ pub(crate) fn fill_grid(s: &[u8], q: &[u8], grid: &mut [u8]) -> Left
         (r .owed) (r .ends) ⌝ }
 {
     let sizes = records::model::counts(s);
-    let n = sizes.activities as usize;
+    let activities = sizes.activities;
+    let n = activities as usize;
     let cores = sizes.cores as u32;
     let horizon = sizes.horizon as usize;
-    let releases = tables::table(Column::Release, n, s, q);
-    let delays = tables::table(Column::Delay, n, s, q);
-    let temporal = tables::table(Column::Temporal, n, s, q);
-    let by_data = tables::table(Column::ByData, n, s, q);
-    let priorities = tables::table(Column::Priority, n, s, q);
-    let befores = tables::before_masks(n, &priorities);
-    let mut owed = tables::table(Column::Duration, n, s, q);
+    let releases = tables::table(Column::Release, activities, s, q);
+    let delays = tables::table(Column::Delay, activities, s, q);
+    let temporal = tables::table(Column::Temporal, activities, s, q);
+    let by_data = tables::table(Column::ByData, activities, s, q);
+    let priorities = tables::table(Column::Priority, activities, s, q);
+    let befores = tables::before_masks(activities, &priorities);
+    let mut owed = tables::table(Column::Duration, activities, s, q);
     let mut ends = [0u32; 32];
     let mut stretch = stretches::unknown();
     let mut t = 0;

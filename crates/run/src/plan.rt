@@ -1,7 +1,6 @@
 // The plan's bytes: the grid in the later part of the lent buffer, the header and the rows in front of it.
 use crate::grid;
 use crate::grid::Left;
-use schedule::Thread;
 ghost use mathlib.Core.Path.{_≡_};
 ghost use mathlib.Core.List.{_++_};
 ghost use Prim.Native.Nat.{ℕ, _+_, _*_, _≤_, _<_};
@@ -95,7 +94,7 @@ fn write_threads(q: &[u8], n: u8, out: &mut [u8])
 {
     let mut j: u8 = 0;
     while j < n {
-        let row = records::choice::thread_row(q, Thread(j));
+        let row = records::choice::timing_at(q, j);
         write_pair(out, 9 + 4 * (j as usize), row.release, row.period);
         j += 1;
     }

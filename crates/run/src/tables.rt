@@ -1,7 +1,8 @@
 // The run's tables by activity, from a model's bytes s and a choice's bytes q.
-use schedule::Activity;
+use records::model::Activity;
 ghost use mathlib.Core.Path.{_≡_};
 ghost use Prim.Native.Nat.{_≤_, _<_};
+ghost use lib.ListN.{getD};
 ghost use Rattle.schedule.specs.Model.{model};
 ghost use Rattle.schedule.specs.Choice.{choice};
 ghost use Rattle.run.specs.Tables.{entryOf, Filled, beforeFrom, beforesFrom};
@@ -15,6 +16,15 @@ pub(crate) enum Column {
     Duration,
     Priority,
     Period,
+}
+
+// What a table holds for activity a.
+fn at(table: &[u32; 32], a: Activity) -> u32
+    requires { ⌜ a .0 < 32 ⌝ }
+    ensures { λ r. ⌜ r ≡ getD (now (table .entry)) (a .0) 0 ⌝ }
+{
+    let number = a.0;
+    table[number as usize]
 }
 
 fn wide(x: u16) -> u32
@@ -40,57 +50,57 @@ fn entry(column: Column, s: &[u8], q: &[u8], a: Activity) -> u32
 }
 
 // The table of a model's n activities.
-pub(crate) fn table(column: Column, n: usize, s: &[u8], q: &[u8]) -> [u32; 32]
+pub(crate) fn table(column: Column, n: u8, s: &[u8], q: &[u8]) -> [u32; 32]
     requires { ⌜ n ≤ 32 ⌝ }
     ensures { λ r. ⌜ Filled n (entryOf column (model (now (s .entry))) (choice (now (q .entry)))) r ⌝ }
 {
     let mut entries = [0u32; 32];
-    let mut a = 0;
-    while a < n {
-        entries[a] = entry(column, s, q, Activity(a as u8));
-        a += 1;
+    let mut number: u8 = 0;
+    while number < n {
+        entries[number as usize] = entry(column, s, q, Activity(number));
+        number += 1;
     }
     entries
 }
 
 // "Rank the ready by priority, highest first, then by lower activity number": b ranks before a.
-fn before(priorities: &[u32; 32], a: usize, b: usize) -> bool
-    requires { ⌜ (a < 32) × (b < 32) ⌝ }
-    ensures { λ r. ⌜ r ≡ beforeFrom (now (priorities .entry)) a b ⌝ }
+fn before(priorities: &[u32; 32], a: Activity, b: Activity) -> bool
+    requires { ⌜ (a .0 < 32) × (b .0 < 32) ⌝ }
+    ensures { λ r. ⌜ r ≡ beforeFrom (now (priorities .entry)) (a .0) (b .0) ⌝ }
 {
-    let own = priorities[a];
-    let other = priorities[b];
+    let own = at(priorities, a);
+    let other = at(priorities, b);
     if own < other {
         return true;
     }
-    if other == own { b < a } else { false }
+    if other == own { b.0 < a.0 } else { false }
 }
 
 // The activities that rank before a.
-fn before_mask(n: usize, priorities: &[u32; 32], a: usize) -> u32
-    requires { ⌜ (n ≤ 32) × (a < 32) ⌝ }
-    ensures { λ r. ⌜ r ≡ beforesFrom n (now (priorities .entry)) a ⌝ }
+fn before_mask(n: u8, priorities: &[u32; 32], a: Activity) -> u32
+    requires { ⌜ (n ≤ 32) × (a .0 < 32) ⌝ }
+    ensures { λ r. ⌜ r ≡ beforesFrom n (now (priorities .entry)) (a .0) ⌝ }
 {
     let mut mask: u32 = 0;
-    let mut b = 0;
-    while b < n {
-        let yes = before(priorities, a, b);
-        mask = bits::mark(mask, b as u32, yes);
-        b += 1;
+    let mut number: u8 = 0;
+    while number < n {
+        let yes = before(priorities, a, Activity(number));
+        mask = bits::mark(mask, number as u32, yes);
+        number += 1;
     }
     mask
 }
 
 // The table of those masks.
-pub(crate) fn before_masks(n: usize, priorities: &[u32; 32]) -> [u32; 32]
+pub(crate) fn before_masks(n: u8, priorities: &[u32; 32]) -> [u32; 32]
     requires { ⌜ n ≤ 32 ⌝ }
     ensures { λ r. ⌜ Filled n (beforesFrom n (now (priorities .entry))) r ⌝ }
 {
     let mut masks = [0u32; 32];
-    let mut a = 0;
-    while a < n {
-        masks[a] = before_mask(n, priorities, a);
-        a += 1;
+    let mut number: u8 = 0;
+    while number < n {
+        masks[number as usize] = before_mask(n, priorities, Activity(number));
+        number += 1;
     }
     masks
 }

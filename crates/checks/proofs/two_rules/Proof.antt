@@ -18,23 +18,20 @@ use Rattle.checks.proofs.two_rules.Tie as tie
 counts-requires : tie.Need-counts-requires
 counts-requires c κs = search needs
 
-cast-rank-masks : tie.Need-cast-rank-masks
-cast-rank-masks c = search needs
-
 rank-masks-requires : tie.Need-rank-masks-requires
 unfolding sizesOf
-rank-masks-requires c κs = omega (arith, ap (λ (y : Sizes). y .activities) (c .before .counts .ensures), c .before .before .before .before .pre .few)
+rank-masks-requires c κs = omega (arith, ap (λ (y : Sizes). y .activities) (c .counts .ensures), c .before .before .before .pre .few)
 
 load-rule-requires : tie.Need-load-rule-requires
 load-rule-requires c κs = search needs
 
 over-ticks-requires : tie.Need-over-ticks-requires
 over-ticks-requires c κs =
-    let x = c .before .before .before .before .before .before .before .args in
+    let x = c .before .before .before .before .before .before .args in
     let m = model (x .s .now) in
     let p = plan (x .r .now) in
     subst (λ (rule : TickRule). Tabled rule m p (x .froms .now) (x .ends .now) (c .before .before .rank-masks .result)) (sym (c .before .load-rule .ensures))
-    (tabled m p (loadRule (x .strict)) (x .froms .now) (x .ends .now) (x .priorities .now) (c .before .before .rank-masks .result) (c .before .before .before .before .before .before .before .pre)
+    (tabled m p (loadRule (x .strict)) (x .froms .now) (x .ends .now) (x .priorities .now) (c .before .before .rank-masks .result) (c .before .before .before .before .before .before .pre)
     (load-ranks m p (x .strict) (c .before .before .rank-masks .result)))
 
 enum-told : tie.Need-enum-told
@@ -43,7 +40,7 @@ enum-told c = search needs
 returns : tie.Need-returns
 unfolding twoRules
 returns c =
-    let x = c .before .before .before .before .before .before .before .before .before .before .args in
+    let x = c .before .before .before .before .before .before .before .before .before .args in
     let m = model (x .s .now) in
     let p = plan (x .r .now) in
     stops _ _ (tickRule (loadRule (x .strict)) m p) _ (c .enum-told .given .1)
@@ -58,19 +55,19 @@ rank-rule-requires c κs = search needs
 over-ticks-requires-2 : tie.Need-over-ticks-requires-2
 unfolding sizesOf
 over-ticks-requires-2 c κs =
-    let x = c .before .before .before .before .before .before .before .before .before .before .before .before .args in
+    let x = c .before .before .before .before .before .before .before .before .before .before .before .args in
     let m = model (x .s .now) in
     let p = plan (x .r .now) in
     subst (λ (rule : TickRule). Tabled rule m p (x .froms .now) (x .ends .now) (c .before .before .before .before .before .before .before .rank-masks .result)) (sym (c .before .rank-rule .ensures))
-    (tabled m p (rankRule (x .strict)) (x .froms .now) (x .ends .now) (x .priorities .now) (c .before .before .before .before .before .before .before .rank-masks .result) (c .before .before .before .before .before .before .before .before .before .before .before .before .pre)
+    (tabled m p (rankRule (x .strict)) (x .froms .now) (x .ends .now) (x .priorities .now) (c .before .before .before .before .before .before .before .rank-masks .result) (c .before .before .before .before .before .before .before .before .before .before .before .pre)
     (rank-ranks m p (x .strict) (c .before .before .before .before .before .before .before .rank-masks .result)
-    (ranked m p (x .strict) _ (x .priorities .now) (c .before .before .before .before .before .before .before .rank-masks .result) (ap (λ (y : Sizes). y .activities) (c .before .before .before .before .before .before .before .before .before .counts .ensures))
-    (c .before .before .before .before .before .before .before .before .before .before .before .before .pre .ranks) (c .before .before .before .before .before .before .before .rank-masks .ensures))))
+    (ranked m p (x .strict) _ (x .priorities .now) (c .before .before .before .before .before .before .before .rank-masks .result) (ap (λ (y : Sizes). y .activities) (c .before .before .before .before .before .before .before .before .counts .ensures))
+    (c .before .before .before .before .before .before .before .before .before .before .before .pre .ranks) (c .before .before .before .before .before .before .before .rank-masks .ensures))))
 
 returns-2 : tie.Need-returns-2
 unfolding twoRules
 returns-2 c =
-    let x = c .before .before .before .before .before .before .before .before .before .before .before .before .before .args in
+    let x = c .before .before .before .before .before .before .before .before .before .before .before .before .args in
     let m = model (x .s .now) in
     let p = plan (x .r .now) in
     goes-on _ (tickRule (loadRule (x .strict)) m p) _ _ (c .before .before .before .enum-told2 .given .1)
@@ -83,7 +80,6 @@ two-rules-spec =
     tie.close
     (tie.spec
     counts-requires
-    cast-rank-masks
     rank-masks-requires
     load-rule-requires
     over-ticks-requires

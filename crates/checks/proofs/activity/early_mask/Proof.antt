@@ -1,10 +1,9 @@
 -- `checks::activity::early_mask` meets its contract: the mask holds the predecessors passed that the start comes too early after. Assumes nothing.
 use native.Mathlib.Omega.{arith}
-use Prim.Native.Nat.{_+_, _≤_, _-_}
+use Prim.Native.Nat.{ℕ, _+_, _≤_, _-_}
 use mathlib.Core.Bool.{Bool, not}
-use mathlib.Core.Path.{_≡_, sym, ap, _∙_}
+use mathlib.Core.Path.{_≡_, sym, ap, ap₂, _∙_}
 use lib.Dec.{leb}
-use lib.ListN.{getD}
 use Rattle.schedule.specs.Bounded.{_⇒_}
 use Rattle.bits.proofs.WordLaws.{mark-next, word-start}
 use Rattle.checks.specs.Rules.{earlyFrom}
@@ -28,17 +27,11 @@ cast-has c = omega arith
 has-requires : tie.Need-has-requires Inv-loop μ-loop
 has-requires c κs = search needs
 
-mul-too-early : tie.Need-mul-too-early Inv-loop μ-loop
-mul-too-early c = omega arith
+at-requires : tie.Need-at-requires Inv-loop μ-loop
+at-requires c κs = omega arith
 
-element-copy-out-too-early : tie.Need-element-copy-out-too-early Inv-loop μ-loop
-element-copy-out-too-early c = omega arith
-
-mul-too-early-2 : tie.Need-mul-too-early-2 Inv-loop μ-loop
-mul-too-early-2 c = omega arith
-
-element-copy-out-too-early-2 : tie.Need-element-copy-out-too-early-2 Inv-loop μ-loop
-element-copy-out-too-early-2 c = omega arith
+at-requires-2 : tie.Need-at-requires-2 Inv-loop μ-loop
+at-requires-2 c κs = omega arith
 
 too-early-requires : tie.Need-too-early-requires Inv-loop μ-loop
 too-early-requires c κs = search needs
@@ -49,8 +42,8 @@ cast-mark c = omega arith
 mark-requires : tie.Need-mark-requires Inv-loop μ-loop
 mark-requires c κs = search needs
 
-add-b : tie.Need-add-b Inv-loop μ-loop
-add-b c = omega arith
+add-number : tie.Need-add-number Inv-loop μ-loop
+add-number c = omega arith
 
 loop-less : tie.Need-loop-less Inv-loop μ-loop
 loop-less c = omega arith
@@ -62,15 +55,16 @@ loop-again c =
     let x = c .before .before .before .before .before .before .before .args in (
       omega arith,
       rw (c .mark .ensures, l .inv .1)
-          (mark-next (l .b) _ (c .before .too-early .result) (omega arith)
+          (mark-next (l .number) _ (c .before .too-early .result) (omega arith)
           (c .before .too-early .ensures
-          ∙ ap (λ (t : Bool). not (t ⇒ leb (getD (x .ends .now) (l .b) 0 + getD (x .delays .now) (l .b) 0) (x .start))) (c .before .before .before .before .has .ensures))),
+          ∙ ap₂ (λ (t : Bool) (done : ℕ). not (t ⇒ leb done (x .start))) (c .before .before .before .before .has .ensures)
+          (ap₂ _+_ (c .before .before .before .at .ensures) (c .before .before .at2 .ensures)))),
     )
 
 returns : tie.Need-returns Inv-loop μ-loop
 returns c =
     let x = c .before .before .args in
-    let whole : c .before .loop .b ≡ x .n = omega arith in
+    let whole : c .before .loop .number ≡ x .n = omega arith in
     c .before .loop .inv .1 ∙ ap (λ k. earlyFrom (x .preceding) (x .start) k (x .ends .now) (x .delays .now)) whole
 
 pub early-mask-spec : {M : Type 1} → statement M
@@ -82,14 +76,12 @@ early-mask-spec =
     loop-holds
     cast-has
     has-requires
-    mul-too-early
-    element-copy-out-too-early
-    mul-too-early-2
-    element-copy-out-too-early-2
+    at-requires
+    at-requires-2
     too-early-requires
     cast-mark
     mark-requires
-    add-b
+    add-number
     loop-less
     loop-again
     returns)

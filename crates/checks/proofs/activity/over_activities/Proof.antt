@@ -53,15 +53,15 @@ returns c =
     let m = model (x .s .now) in
     let p = plan (x .r .now) in
     c .refused .ensures
-    ∙ ap (λ (k : ℕ). some (record { number = k; A = l .a; B = c .before .before .before .lowest .result }))
+    ∙ ap (λ (k : ℕ). some (record { number = k; A = l .number; B = c .before .before .before .lowest .result }))
     (ap ruleNumber (c .before .name .ensures) ∙ activity-number (x .rule) m p)
-    ∙ sym (clear-stop (activityRule (x .rule) m p) (l .a) _ (l .inv .3)
+    ∙ sym (clear-stop (activityRule (x .rule) m p) (l .number) _ (l .inv .3)
     (omega (arith, activity-rows (x .rule) m p, l .inv .1, c .before .before .before .before .before .loop-test .taken))
-    (row-stops (activityRule (x .rule) m p) (l .a) _ _ (activity-columns (x .rule) m p (l .inv .2 .few)) (c .before .before .before .before .breaking .ensures)
+    (row-stops (activityRule (x .rule) m p) (l .number) _ _ (activity-columns (x .rule) m p (l .inv .2 .few)) (c .before .before .before .before .breaking .ensures)
     (c .before .before .before .lowest .ensures) (c .before .before .if1 .taken)))
 
-add-a : tie.Need-add-a Inv-loop μ-loop
-add-a c = omega arith
+add-number : tie.Need-add-number Inv-loop μ-loop
+add-number c = omega arith
 
 loop-less : tie.Need-loop-less Inv-loop μ-loop
 loop-less c = omega arith
@@ -75,8 +75,8 @@ loop-again c =
       omega arith,
       l .inv .1,
       l .inv .2,
-      clear-again (activityRule (x .rule) m p) (l .a) (l .inv .3)
-          (row-goes-on (activityRule (x .rule) m p) (l .a) _ _ (activity-columns (x .rule) m p (l .inv .2 .few)) (c .before .before .breaking .ensures)
+      clear-again (activityRule (x .rule) m p) (l .number) (l .inv .3)
+          (row-goes-on (activityRule (x .rule) m p) (l .number) _ _ (activity-columns (x .rule) m p (l .inv .2 .few)) (c .before .before .breaking .ensures)
           (c .before .lowest .ensures) (c .if1 .left)),
     )
 
@@ -85,7 +85,7 @@ returns-2 c =
     let x = c .before .before .before .before .before .args in
     let l = c .before .loop in
     let r = activityRule (x .rule) (model (x .s .now)) (plan (x .r .now)) in
-    let whole : l .a ≡ r .rows = omega (arith, activity-rows (x .rule) (model (x .s .now)) (plan (x .r .now)), l .inv .1) in
+    let whole : l .number ≡ r .rows = omega (arith, activity-rows (x .rule) (model (x .s .now)) (plan (x .r .now)), l .inv .1) in
     sym (clear-end r (subst (ClearTo r) whole (l .inv .3)))
 
 pub over-activities-spec : {M : Type 1} → statement M
@@ -102,7 +102,7 @@ over-activities-spec =
     cast-refused
     refused-requires
     returns
-    add-a
+    add-number
     loop-less
     loop-again
     returns-2)

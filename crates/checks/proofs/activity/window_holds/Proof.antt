@@ -25,8 +25,8 @@ returns : tie.Need-returns
 unfolding window spanOf sizesOf
 returns c =
     let x = c .before .before .before .before .before .args in
-    let start : c .before .before .activity-row .result .start ≡ plan (x .r .now) .start (x .a) = ap (λ (y : Span). y .start) (c .before .before .activity-row .ensures) in
-    let end : c .before .before .activity-row .result .end ≡ plan (x .r .now) .end (x .a) = ap (λ (y : Span). y .end) (c .before .before .activity-row .ensures) in
+    let start : c .before .before .activity-row .result .start ≡ plan (x .r .now) .start (x .a .0) = ap (λ (y : Span). y .start) (c .before .before .activity-row .ensures) in
+    let end : c .before .before .activity-row .result .end ≡ plan (x .r .now) .end (x .a .0) = ap (λ (y : Span). y .end) (c .before .before .activity-row .ensures) in
     let horizon : c .before .counts .result .horizon ≡ model (x .s .now) .horizon = ap (λ (y : Sizes). y .horizon) (c .before .counts .ensures) in
     simp (← start, ← end, le-ltb _ _ (c .if1 .taken))
 
@@ -34,13 +34,16 @@ returns-2 : tie.Need-returns-2
 unfolding window spanOf sizesOf
 returns-2 c =
     let x = c .before .before .before .before .before .before .args in
-    let start : c .before .before .before .activity-row .result .start ≡ plan (x .r .now) .start (x .a) = ap (λ (y : Span). y .start) (c .before .before .before .activity-row .ensures) in
-    let end : c .before .before .before .activity-row .result .end ≡ plan (x .r .now) .end (x .a) = ap (λ (y : Span). y .end) (c .before .before .before .activity-row .ensures) in
+    let start : c .before .before .before .activity-row .result .start ≡ plan (x .r .now) .start (x .a .0) = ap (λ (y : Span). y .start) (c .before .before .before .activity-row .ensures) in
+    let end : c .before .before .before .activity-row .result .end ≡ plan (x .r .now) .end (x .a .0) = ap (λ (y : Span). y .end) (c .before .before .before .activity-row .ensures) in
     let horizon : c .before .before .counts .result .horizon ≡ model (x .s .now) .horizon = ap (λ (y : Sizes). y .horizon) (c .before .before .counts .ensures) in
     simp (← start, ← end, ← horizon, lt-ltb _ _ (c .before .if1 .left), lt-leb _ _ (c .if2 .taken))
 
 word-requires : tie.Need-word-requires
 word-requires c κs = search needs
+
+cast-has : tie.Need-cast-has
+cast-has c = search needs
 
 has-requires : tie.Need-has-requires
 has-requires c κs = search needs
@@ -49,8 +52,8 @@ returns-3 : tie.Need-returns-3
 unfolding window spanOf sizesOf
 returns-3 c =
     let x = c .before .before .before .before .before .before .before .before .before .args in
-    let start : c .before .before .before .before .before .before .activity-row .result .start ≡ plan (x .r .now) .start (x .a) = ap (λ (y : Span). y .start) (c .before .before .before .before .before .before .activity-row .ensures) in
-    let end : c .before .before .before .before .before .before .activity-row .result .end ≡ plan (x .r .now) .end (x .a) = ap (λ (y : Span). y .end) (c .before .before .before .before .before .before .activity-row .ensures) in
+    let start : c .before .before .before .before .before .before .activity-row .result .start ≡ plan (x .r .now) .start (x .a .0) = ap (λ (y : Span). y .start) (c .before .before .before .before .before .before .activity-row .ensures) in
+    let end : c .before .before .before .before .before .before .activity-row .result .end ≡ plan (x .r .now) .end (x .a .0) = ap (λ (y : Span). y .end) (c .before .before .before .before .before .before .activity-row .ensures) in
     let horizon : c .before .before .before .before .before .counts .result .horizon ≡ model (x .s .now) .horizon = ap (λ (y : Sizes). y .horizon) (c .before .before .before .before .before .counts .ensures) in
     simp (
       ← start,
@@ -68,6 +71,9 @@ sub-word c = search needs
 word-requires-2 : tie.Need-word-requires-2
 word-requires-2 c κs = search needs
 
+cast-has-2 : tie.Need-cast-has-2
+cast-has-2 c = search needs
+
 has-requires-2 : tie.Need-has-requires-2
 has-requires-2 c κs = search needs
 
@@ -75,8 +81,8 @@ returns-4 : tie.Need-returns-4
 unfolding window spanOf sizesOf
 returns-4 c =
     let x = c .before .before .before .before .before .before .before .before .before .before .before .before .args in
-    let start : c .before .before .before .before .before .before .before .before .before .activity-row .result .start ≡ plan (x .r .now) .start (x .a) = ap (λ (y : Span). y .start) (c .before .before .before .before .before .before .before .before .before .activity-row .ensures) in
-    let end : c .before .before .before .before .before .before .before .before .before .activity-row .result .end ≡ plan (x .r .now) .end (x .a) = ap (λ (y : Span). y .end) (c .before .before .before .before .before .before .before .before .before .activity-row .ensures) in
+    let start : c .before .before .before .before .before .before .before .before .before .activity-row .result .start ≡ plan (x .r .now) .start (x .a .0) = ap (λ (y : Span). y .start) (c .before .before .before .before .before .before .before .before .before .activity-row .ensures) in
+    let end : c .before .before .before .before .before .before .before .before .before .activity-row .result .end ≡ plan (x .r .now) .end (x .a .0) = ap (λ (y : Span). y .end) (c .before .before .before .before .before .before .before .before .before .activity-row .ensures) in
     let horizon : c .before .before .before .before .before .before .before .before .counts .result .horizon ≡ model (x .s .now) .horizon = ap (λ (y : Sizes). y .horizon) (c .before .before .before .before .before .before .before .before .counts .ensures) in
     simp (
       ← start,
@@ -90,6 +96,9 @@ returns-4 c =
       sym (c .before .has2 .ensures) ∙ not-true _ (c .if4 .taken),
     )
 
+cast-has-3 : tie.Need-cast-has-3
+cast-has-3 c = search needs
+
 has-requires-3 : tie.Need-has-requires-3
 has-requires-3 c κs = search needs
 
@@ -99,14 +108,14 @@ returns-5 c =
     let x = c .before .before .before .before .before .before .before .before .before .before .before .before .before .args in
     let p = plan (x .r .now) in
     let row = c .before .before .before .before .before .before .before .before .before .before .activity-row .ensures in
-    let start : c .before .before .before .before .before .before .before .before .before .before .activity-row .result .start ≡ p .start (x .a) = ap (λ (y : Span). y .start) row in
-    let end : c .before .before .before .before .before .before .before .before .before .before .activity-row .result .end ≡ p .end (x .a) = ap (λ (y : Span). y .end) row in
+    let start : c .before .before .before .before .before .before .before .before .before .before .activity-row .result .start ≡ p .start (x .a .0) = ap (λ (y : Span). y .start) row in
+    let end : c .before .before .before .before .before .before .before .before .before .before .activity-row .result .end ≡ p .end (x .a .0) = ap (λ (y : Span). y .end) row in
     let horizon : c .before .before .before .before .before .before .before .before .before .counts .result .horizon ≡ model (x .s .now) .horizon = ap (λ (y : Sizes). y .horizon) (c .before .before .before .before .before .before .before .before .before .counts .ensures) in
-    window-outside (model (x .s .now)) p (x .a) (c .has3 .result)
+    window-outside (model (x .s .now)) p (x .a .0) (c .has3 .result)
     (sym (ap₂ ltb start end) ∙ lt-ltb _ _ (c .before .before .before .before .before .before .before .before .if1 .left))
     (sym (ap₂ leb end horizon) ∙ le-leb _ _ (c .before .before .before .before .before .before .before .if2 .left))
-    (ap (λ t. active p t (x .a)) (sym start) ∙ sym (ap (λ w. bit w (x .a)) (c .before .before .before .before .before .before .word .ensures)) ∙ sym (c .before .before .before .before .before .has .ensures) ∙ not-false _ (c .before .before .before .before .if3 .left))
-    (ap (λ t. active p (t - 1) (x .a)) (sym end) ∙ sym (ap (λ w. bit w (x .a)) (c .before .before .before .word2 .ensures)) ∙ sym (c .before .before .has2 .ensures) ∙ not-false _ (c .before .if4 .left))
+    (ap (λ t. active p t (x .a .0)) (sym start) ∙ sym (ap (λ w. bit w (x .a .0)) (c .before .before .before .before .before .before .word .ensures)) ∙ sym (c .before .before .before .before .before .has .ensures) ∙ not-false _ (c .before .before .before .before .if3 .left))
+    (ap (λ t. active p (t - 1) (x .a .0)) (sym end) ∙ sym (ap (λ w. bit w (x .a .0)) (c .before .before .before .word2 .ensures)) ∙ sym (c .before .before .has2 .ensures) ∙ not-false _ (c .before .if4 .left))
     (c .has3 .ensures ∙ c .before .before .before .before .before .before .before .before .before .before .before .before .before .pre)
 
 pub window-holds-spec : {M : Type 1} → statement M
@@ -118,11 +127,14 @@ window-holds-spec =
     returns
     returns-2
     word-requires
+    cast-has
     has-requires
     returns-3
     sub-word
     word-requires-2
+    cast-has-2
     has-requires-2
     returns-4
+    cast-has-3
     has-requires-3
     returns-5)

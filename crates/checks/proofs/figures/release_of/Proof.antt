@@ -6,15 +6,15 @@ use borrow.Author.Needs.{needs}
 use Rattle.checks.proofs.figures.release_of.Statement.{statement}
 use Rattle.checks.proofs.figures.release_of.Tie as tie
 
-thread-row-requires : tie.Need-thread-row-requires
-thread-row-requires c κs = search needs
+timing-at-requires : tie.Need-timing-at-requires
+timing-at-requires c κs = search needs
 
 cast-result : tie.Need-cast-result
 cast-result c = search needs
 
 returns : tie.Need-returns
 unfolding timing
-returns c = ap (λ (y : Timing). y .release) (c .before .thread-row .ensures)
+returns c = ap (λ (y : Timing). y .release) (c .before .timing-at .ensures)
 
 pub release-of-spec : {M : Type 1} → statement M
-release-of-spec = tie.close (tie.spec thread-row-requires cast-result returns)
+release-of-spec = tie.close (tie.spec timing-at-requires cast-result returns)

@@ -29,9 +29,6 @@ activity-row-requires c κs = search needs
 loop-holds : tie.Need-loop-holds Inv-loop μ-loop
 loop-holds c = (omega arith, sym (greatest-start _))
 
-cast-at : tie.Need-cast-at Inv-loop μ-loop
-cast-at c = omega arith
-
 cast-has : tie.Need-cast-has Inv-loop μ-loop
 cast-has c = omega arith
 
@@ -44,17 +41,11 @@ cast-has-2 c = omega arith
 has-requires-2 : tie.Need-has-requires-2 Inv-loop μ-loop
 has-requires-2 c κs = search needs
 
-mul-let-go : tie.Need-mul-let-go Inv-loop μ-loop
-mul-let-go c = omega arith
+at-requires : tie.Need-at-requires Inv-loop μ-loop
+at-requires c κs = omega arith
 
-element-copy-out-let-go : tie.Need-element-copy-out-let-go Inv-loop μ-loop
-element-copy-out-let-go c = omega arith
-
-mul-let-go-2 : tie.Need-mul-let-go-2 Inv-loop μ-loop
-mul-let-go-2 c = omega arith
-
-element-copy-out-let-go-2 : tie.Need-element-copy-out-let-go-2 Inv-loop μ-loop
-element-copy-out-let-go-2 c = omega arith
+at-requires-2 : tie.Need-at-requires-2 Inv-loop μ-loop
+at-requires-2 c κs = omega arith
 
 let-go-requires : tie.Need-let-go-requires Inv-loop μ-loop
 let-go-requires c κs =
@@ -62,15 +53,15 @@ let-go-requires c κs =
     let x = c .before .before .before .before .before .before .before .before .args in
     let pre = c .before .before .before .before .before .before .before .before .pre in
     let less = c .before .before .before .before .loop-test .taken in (
-      pre .1 .1 (l .b) less,
-      omega (arith, pre .1 .0 (l .b) less, delay-lt (x .s .now) (λ i _. c .before .before .before .before .before .before .before .shared-slice-known .given i .fits) (l .b)),
+      omega (arith, c .before .at .ensures, pre .1 .1 (l .number) less),
+      omega (arith, c .at2 .ensures, pre .1 .0 (l .number) less, delay-lt (x .s .now) (λ i _. c .before .before .before .before .before .before .before .shared-slice-known .given i .fits) (l .number)),
     )
 
 larger-requires : tie.Need-larger-requires Inv-loop μ-loop
 larger-requires c κs = search needs
 
-add-b : tie.Need-add-b Inv-loop μ-loop
-add-b c = omega arith
+add-number : tie.Need-add-number Inv-loop μ-loop
+add-number c = omega arith
 
 loop-less : tie.Need-loop-less Inv-loop μ-loop
 loop-less c = omega arith
@@ -83,10 +74,11 @@ loop-again c =
       omega arith,
       c .larger .ensures
           ∙ ap₂ max (l .inv .1)
-          (term-reads _ _ (l .b) (getD (x .done .now) (l .b) 0) (getD (x .delays .now) (l .b) 0) _ _ _ _ (c .before .let-go .ensures)
+          (term-reads _ _ (l .number) _ (getD (x .done .now) (l .number) 0) _ _ _ _ _ (c .before .let-go .ensures)
           (c .before .before .before .before .before .has .ensures) (c .before .before .before .before .has2 .ensures)
-          (pre .1 .0 (l .b) (c .before .before .before .before .before .before .loop-test .taken)))
-          ∙ sym (greatest-next (l .b) _),
+          (c .before .before .before .at .ensures)
+          (c .before .before .at2 .ensures ∙ pre .1 .0 (l .number) (c .before .before .before .before .before .before .loop-test .taken)))
+          ∙ sym (greatest-next (l .number) _),
     )
 
 returns : tie.Need-returns Inv-loop μ-loop
@@ -94,7 +86,7 @@ unfolding activityRowOf tables.after
 returns c =
     let x = c .before .before .before .before .args in
     let row = c .before .before .activity-row .ensures in
-    let whole : c .before .loop .b ≡ x .n = omega arith in
+    let whole : c .before .loop .number ≡ x .n = omega arith in
     c .before .loop .inv .1
     ∙ ap₂ (λ (k : ℕ) (y : ActivityRow). greatest k (λ i. cond (bit (y .«temporal_mask») i)
     (getD (x .done .now) i 0 + model (x .s .now) .delay i) (cond (bit (y .«data_mask») i) (getD (x .done .now) i 0) 0)))
@@ -108,18 +100,15 @@ after-spec =
     μ-loop
     activity-row-requires
     loop-holds
-    cast-at
     cast-has
     has-requires
     cast-has-2
     has-requires-2
-    mul-let-go
-    element-copy-out-let-go
-    mul-let-go-2
-    element-copy-out-let-go-2
+    at-requires
+    at-requires-2
     let-go-requires
     larger-requires
-    add-b
+    add-number
     loop-less
     loop-again
     returns)

@@ -1,7 +1,7 @@
 -- `checks::tables::finishes` meets its contract: the table is right at the activities passed, and small. Assumes nothing.
 use Prim.Native.Nat.{ℕ, _+_, _*_, _≤_, _<_, _-_}
 use native.Mathlib.Omega.{arith}
-use mathlib.Core.Path.{_≡_, refl, ap}
+use mathlib.Core.Path.{_≡_, refl, ap, _∙_}
 use lib.ListN.{length, getD, length-set}
 use Rattle.schedule.specs.Fields.{Bytes}
 use Rattle.schedule.specs.Model.{model}
@@ -37,20 +37,14 @@ loop-holds c = (
   c .before .before .before .pre .0,
 )
 
-cast-at : tie.Need-cast-at Inv-loop μ-loop
-cast-at c = omega arith
-
 earliest-requires : tie.Need-earliest-requires Inv-loop μ-loop
 earliest-requires c κs =
     let l = c .before .before .loop in
     let pre = c .before .before .before .before .before .before .pre in
     (omega (arith, l .inv .1, l .inv .5), (λ b h. pre .1 .1 .1 b (omega (arith, h, l .inv .1)), λ b _. omega (arith, l .inv .3 b, l .inv .1, l .inv .5, l .inv .0)))
 
-mul-table : tie.Need-mul-table Inv-loop μ-loop
-mul-table c = search needs
-
-element-copy-out-table : tie.Need-element-copy-out-table Inv-loop μ-loop
-element-copy-out-table c = omega arith
+at-requires : tie.Need-at-requires Inv-loop μ-loop
+at-requires c κs = omega arith
 
 add-table : tie.Need-add-table Inv-loop μ-loop
 add-table c =
@@ -59,20 +53,23 @@ add-table c =
     let pre = c .before .before .before .before .before .before .before .before .pre in
     let s-bytes : Bytes (x .s .now) = λ i _. c .before .before .before .before .before .before .before .shared-slice-known .given i .fits in
     let r-bytes : Bytes (x .r .now) = λ i _. c .before .before .before .before .before .before .shared-slice-known2 .given i .fits in
-    let count = pre .1 .1 .0 (l .a) (omega (arith, l .inv .1, c .before .before .before .loop-test .taken)) in
+    let count = c .at .ensures ∙ pre .1 .1 .0 (l .number) (omega (arith, l .inv .1, c .before .before .before .loop-test .taken)) in
     let bound = finish-bound (model (x .s .now)) (plan (x .r .now)) (pre .1 .0) (delay-lt (x .s .now) s-bytes)
-    (release-lt (x .r .now) r-bytes) (horizon-lt (x .s .now) s-bytes) (l .table) (l .a) _ _ _ (131072 * l .a) (l .inv .3)
+    (release-lt (x .r .now) r-bytes) (horizon-lt (x .s .now) s-bytes) (l .table) (l .number) _ _ _ (131072 * l .number) (l .inv .3)
     (c .before .earliest .ensures) count in
     omega (arith, bound, l .inv .0, l .inv .1, l .inv .5)
 
-mul-table-2 : tie.Need-mul-table-2 Inv-loop μ-loop
-mul-table-2 c = omega arith
+cast-table : tie.Need-cast-table Inv-loop μ-loop
+cast-table c = omega arith
+
+mul-table : tie.Need-mul-table Inv-loop μ-loop
+mul-table c = omega arith
 
 array-write-table : tie.Need-array-write-table Inv-loop μ-loop
 array-write-table c = omega arith
 
-add-a : tie.Need-add-a Inv-loop μ-loop
-add-a c = omega arith
+add-number : tie.Need-add-number Inv-loop μ-loop
+add-number c = omega arith
 
 loop-less : tie.Need-loop-less Inv-loop μ-loop
 loop-less c = omega arith
@@ -84,17 +81,17 @@ loop-again c =
     let pre = c .before .before .before .before .before .before .before .before .pre in
     let s-bytes : Bytes (x .s .now) = λ i _. c .before .before .before .before .before .before .before .shared-slice-known .given i .fits in
     let r-bytes : Bytes (x .r .now) = λ i _. c .before .before .before .before .before .before .shared-slice-known2 .given i .fits in
-    let count = pre .1 .1 .0 (l .a) (omega (arith, l .inv .1, c .before .before .before .loop-test .taken)) in
+    let count = c .at .ensures ∙ pre .1 .1 .0 (l .number) (omega (arith, l .inv .1, c .before .before .before .loop-test .taken)) in
     let bound = finish-bound (model (x .s .now)) (plan (x .r .now)) (pre .1 .0) (delay-lt (x .s .now) s-bytes)
-    (release-lt (x .r .now) r-bytes) (horizon-lt (x .s .now) s-bytes) (l .table) (l .a) _ _ _ (131072 * l .a) (l .inv .3)
+    (release-lt (x .r .now) r-bytes) (horizon-lt (x .s .now) s-bytes) (l .table) (l .number) _ _ _ (131072 * l .number) (l .inv .3)
     (c .before .earliest .ensures) count in (
       omega arith,
       l .inv .1,
       simp length-set (l .inv .2),
-      set-bound (l .table) (l .a) _ (131072 * l .a) (131072 * (l .a + 1)) (l .inv .3) (omega arith) (omega (arith, bound)),
-      table-next (l .table) (l .a) _ (finishOf (model (x .s .now)) (plan (x .r .now))) (omega (arith, l .inv .2, pre .0))
+      set-bound (l .table) (l .number) _ (131072 * l .number) (131072 * (l .number + 1)) (l .inv .3) (omega arith) (omega (arith, bound)),
+      table-next (l .table) (l .number) _ (finishOf (model (x .s .now)) (plan (x .r .now))) (omega (arith, l .inv .2, pre .0))
           (finish-next (model (x .s .now)) (plan (x .r .now)) (pre .1 .0) (delay-lt (x .s .now) s-bytes) (release-lt (x .r .now) r-bytes)
-          (horizon-lt (x .s .now) s-bytes) (l .table) (l .a) _ _ _ (l .inv .1) (omega (arith, l .inv .1)) (l .inv .4)
+          (horizon-lt (x .s .now) s-bytes) (l .table) (l .number) _ _ _ (l .inv .1) (omega (arith, l .inv .1)) (l .inv .4)
           (c .before .earliest .ensures) count) (l .inv .4),
       l .inv .5,
     )
@@ -112,14 +109,13 @@ finishes-spec =
     μ-loop
     counts-requires
     loop-holds
-    cast-at
     earliest-requires
-    mul-table
-    element-copy-out-table
+    at-requires
     add-table
-    mul-table-2
+    cast-table
+    mul-table
     array-write-table
-    add-a
+    add-number
     loop-less
     loop-again
     returns)

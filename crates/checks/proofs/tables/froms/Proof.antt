@@ -1,7 +1,7 @@
 -- `checks::tables::froms` meets its contract: the table is right at the activities passed. Assumes nothing.
 use Prim.Native.Nat.{ℕ, _≤_, _<_, _-_, max}
 use native.Mathlib.Omega.{arith}
-use mathlib.Core.Path.{_≡_, refl, ap, _∙_}
+use mathlib.Core.Path.{_≡_, refl, ap, ap₂, _∙_}
 use lib.ListN.{length, getD, length-set}
 use Rattle.schedule.specs.Model.{model}
 use Rattle.records.specs.declared.model.Sizes.{Sizes}
@@ -27,25 +27,18 @@ loop-holds : tie.Need-loop-holds Inv-loop μ-loop
 unfolding sizesOf
 loop-holds c = (omega arith, ap (λ (y : Sizes). y .activities) (c .counts .ensures), refl, λ i l. absurd (omega arith), c .before .before .pre .0)
 
-cast-at : tie.Need-cast-at Inv-loop μ-loop
-cast-at c = omega arith
+at-requires : tie.Need-at-requires Inv-loop μ-loop
+at-requires c κs = omega arith
 
-mul-larger : tie.Need-mul-larger Inv-loop μ-loop
-mul-larger c = omega arith
-
-element-copy-out-larger : tie.Need-element-copy-out-larger Inv-loop μ-loop
-element-copy-out-larger c = omega arith
-
-mul-larger-2 : tie.Need-mul-larger-2 Inv-loop μ-loop
-mul-larger-2 c = omega arith
-
-element-copy-out-larger-2 : tie.Need-element-copy-out-larger-2 Inv-loop μ-loop
-element-copy-out-larger-2 c = omega arith
+at-requires-2 : tie.Need-at-requires-2 Inv-loop μ-loop
+at-requires-2 c κs = omega arith
 
 sub-larger : tie.Need-sub-larger Inv-loop μ-loop
 sub-larger c =
     let l = c .before .before .before .loop in
-    c .before .before .before .before .before .before .pre .1 .1 .0 (l .a) (omega (arith, l .inv .1, c .before .before .loop-test .taken))
+    let pre = c .before .before .before .before .before .before .pre in
+    let fact = pre .1 .1 .0 (l .number) (omega (arith, l .inv .1, c .before .before .loop-test .taken)) in
+    omega (arith, fact, c .before .at .ensures, c .at2 .ensures)
 
 after-requires : tie.Need-after-requires Inv-loop μ-loop
 after-requires c κs =
@@ -60,14 +53,17 @@ after-requires c κs =
 larger-requires : tie.Need-larger-requires Inv-loop μ-loop
 larger-requires c κs = search needs
 
+cast-table : tie.Need-cast-table Inv-loop μ-loop
+cast-table c = omega arith
+
 mul-table : tie.Need-mul-table Inv-loop μ-loop
 mul-table c = omega arith
 
 array-write-table : tie.Need-array-write-table Inv-loop μ-loop
 array-write-table c = omega arith
 
-add-a : tie.Need-add-a Inv-loop μ-loop
-add-a c = omega arith
+add-number : tie.Need-add-number Inv-loop μ-loop
+add-number c = omega arith
 
 loop-less : tie.Need-loop-less Inv-loop μ-loop
 loop-less c = omega arith
@@ -79,11 +75,11 @@ loop-again c =
       omega arith,
       l .inv .1,
       simp length-set (l .inv .2),
-      table-next (l .table) (l .a) _ (fromOf (model (x .s .now)) (x .finishes .now) (x .counts .now) (x .ends .now))
+      table-next (l .table) (l .number) _ (fromOf (model (x .s .now)) (x .finishes .now) (x .counts .now) (x .ends .now))
           (omega (arith, l .inv .1, l .inv .2, l .inv .4))
           (c .larger .ensures
-          ∙ ap (max (getD (x .finishes .now) (l .a) 0 - getD (x .counts .now) (l .a) 0))
-          (c .before .after .ensures ∙ ap (λ k. after (model (x .s .now)) k (λ b. getD (x .ends .now) b 0) (l .a)) (l .inv .1)))
+          ∙ ap₂ max (ap₂ _-_ (c .before .before .before .at .ensures) (c .before .before .at2 .ensures))
+          (c .before .after .ensures ∙ ap (λ k. after (model (x .s .now)) k (λ b. getD (x .ends .now) b 0) (l .number)) (l .inv .1)))
           (l .inv .3),
       l .inv .4,
     )
@@ -101,17 +97,15 @@ froms-spec =
     μ-loop
     counts-requires
     loop-holds
-    cast-at
-    mul-larger
-    element-copy-out-larger
-    mul-larger-2
-    element-copy-out-larger-2
+    at-requires
+    at-requires-2
     sub-larger
     after-requires
     larger-requires
+    cast-table
     mul-table
     array-write-table
-    add-a
+    add-number
     loop-less
     loop-again
     returns)

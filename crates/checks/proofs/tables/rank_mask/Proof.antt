@@ -10,7 +10,7 @@ use Rattle.checks.proofs.tables.rank_mask.Statement.{statement}
 use Rattle.checks.proofs.tables.rank_mask.Tie as tie
 
 abbrev Inv-loop : tie.InvT-loop
-Inv-loop n priorities level a mask₀ b₀ mask b = (b ≤ n) × (mask ≡ wordOf b (outranksFrom priorities level a))
+Inv-loop n priorities level a mask₀ b₀ mask b = (b ≤ n) × (mask ≡ wordOf b (outranksFrom priorities level (a .0)))
 
 abbrev μ-loop : tie.MeasureT-loop
 μ-loop n priorities level a mask₀ b₀ mask b = n - b
@@ -27,8 +27,8 @@ cast-mark c = omega arith
 mark-requires : tie.Need-mark-requires Inv-loop μ-loop
 mark-requires c κs = search needs
 
-add-b : tie.Need-add-b Inv-loop μ-loop
-add-b c = omega arith
+add-number : tie.Need-add-number Inv-loop μ-loop
+add-number c = omega arith
 
 loop-less : tie.Need-loop-less Inv-loop μ-loop
 loop-less c = omega arith
@@ -37,14 +37,14 @@ loop-again : tie.Need-loop-again Inv-loop μ-loop
 loop-again c =
     let l = c .before .before .before .loop in (
       omega arith,
-      rw (c .mark .ensures, l .inv .1) (mark-next (l .b) _ (c .before .outranks .result) (omega arith) (c .before .outranks .ensures)),
+      rw (c .mark .ensures, l .inv .1) (mark-next (l .number) _ (c .before .outranks .result) (omega arith) (c .before .outranks .ensures)),
     )
 
 returns : tie.Need-returns Inv-loop μ-loop
 returns c =
     let x = c .before .before .args in
-    let whole : c .before .loop .b ≡ x .n = omega arith in
-    c .before .loop .inv .1 ∙ ap (λ k. wordOf k (outranksFrom (x .priorities .now) (x .level) (x .a))) whole
+    let whole : c .before .loop .number ≡ x .n = omega arith in
+    c .before .loop .inv .1 ∙ ap (λ k. wordOf k (outranksFrom (x .priorities .now) (x .level) (x .a .0))) whole
 
 pub rank-mask-spec : {M : Type 1} → statement M
 rank-mask-spec =
@@ -56,7 +56,7 @@ rank-mask-spec =
     outranks-requires
     cast-mark
     mark-requires
-    add-b
+    add-number
     loop-less
     loop-again
     returns)

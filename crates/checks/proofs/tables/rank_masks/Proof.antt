@@ -25,14 +25,17 @@ loop-holds c = (omega arith, refl, λ i l. absurd (omega arith), λ i l. zeros-a
 rank-mask-requires : tie.Need-rank-mask-requires Inv-loop μ-loop
 rank-mask-requires c κs = (omega arith, omega arith)
 
+cast-masks : tie.Need-cast-masks Inv-loop μ-loop
+cast-masks c = omega arith
+
 mul-masks : tie.Need-mul-masks Inv-loop μ-loop
 mul-masks c = omega arith
 
 array-write-masks : tie.Need-array-write-masks Inv-loop μ-loop
 array-write-masks c = omega arith
 
-add-a : tie.Need-add-a Inv-loop μ-loop
-add-a c = omega arith
+add-number : tie.Need-add-number Inv-loop μ-loop
+add-number c = omega arith
 
 loop-less : tie.Need-loop-less Inv-loop μ-loop
 loop-less c = omega arith
@@ -43,8 +46,8 @@ loop-again c =
     let x = c .before .before .before .args in (
       omega arith,
       simp length-set (l .inv .1),
-      table-next (l .masks) (l .a) (c .rank-mask .result) (λ i. wordOf (x .n) (outranksFrom (x .priorities .now) (x .level) i)) (omega (arith, l .inv .1)) (c .rank-mask .ensures) (l .inv .2),
-      λ i h. getD-set-other (l .masks) (l .a) i (c .rank-mask .result) 0 (omega arith) ∙ l .inv .3 i (omega arith),
+      table-next (l .masks) (l .number) (c .rank-mask .result) (λ i. wordOf (x .n) (outranksFrom (x .priorities .now) (x .level) i)) (omega (arith, l .inv .1)) (c .rank-mask .ensures) (l .inv .2),
+      λ i h. getD-set-other (l .masks) (l .number) i (c .rank-mask .result) 0 (omega arith) ∙ l .inv .3 i (omega arith),
     )
 
 returns : tie.Need-returns Inv-loop μ-loop
@@ -60,9 +63,10 @@ rank-masks-spec =
     μ-loop
     loop-holds
     rank-mask-requires
+    cast-masks
     mul-masks
     array-write-masks
-    add-a
+    add-number
     loop-less
     loop-again
     returns)

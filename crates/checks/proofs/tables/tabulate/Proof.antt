@@ -40,8 +40,8 @@ mul-table c = omega arith
 array-write-table : tie.Need-array-write-table Inv-loop μ-loop
 array-write-table c = omega arith
 
-add-a : tie.Need-add-a Inv-loop μ-loop
-add-a c = omega arith
+add-number : tie.Need-add-number Inv-loop μ-loop
+add-number c = omega arith
 
 loop-less : tie.Need-loop-less Inv-loop μ-loop
 loop-less c = omega arith
@@ -54,7 +54,7 @@ loop-again c =
       l .inv .1,
       l .inv .2,
       simp length-set (l .inv .3),
-      table-next (l .table) (l .a) (c .value .result) (columnOf (x .column) (model (x .s .now)) (plan (x .r .now))) (omega (arith, l .inv .2, l .inv .3)) (c .value .ensures) (l .inv .4),
+      table-next (l .table) (l .number) (c .value .result) (columnOf (x .column) (model (x .s .now)) (plan (x .r .now))) (omega (arith, l .inv .2, l .inv .3)) (c .value .ensures) (l .inv .4),
     )
 
 returns : tie.Need-returns Inv-loop μ-loop
@@ -74,7 +74,7 @@ tabulate-spec =
     cast-table
     mul-table
     array-write-table
-    add-a
+    add-number
     loop-less
     loop-again
     returns)
