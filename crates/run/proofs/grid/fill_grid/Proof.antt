@@ -17,12 +17,12 @@ use Rattle.run.proofs.grid.fill_grid.Statement.{statement}
 use Rattle.run.proofs.grid.fill_grid.Tie as tie
 
 abbrev Inv-loop : tie.InvT-loop
-Inv-loop s q grid₀ n cores horizon releases delays temporal by-data befores owed₀ ends₀ stretch₀ t₀ grid owed ends stretch t =
+Inv-loop s q grid₀ activities n cores horizon releases delays temporal by-data befores owed₀ ends₀ stretch₀ t₀ grid owed ends stretch t =
     Running (model s) (choice q) n cores horizon releases delays temporal by-data befores grid₀ grid owed ends t
     × Lasts n cores releases delays temporal by-data befores owed ends stretch t
 
 abbrev μ-loop : tie.MeasureT-loop
-μ-loop s q grid₀ n cores horizon releases delays temporal by-data befores owed₀ ends₀ stretch₀ t₀ grid owed ends stretch t =
+μ-loop s q grid₀ activities n cores horizon releases delays temporal by-data befores owed₀ ends₀ stretch₀ t₀ grid owed ends stretch t =
     horizon - t
 
 counts-requires : tie.Need-counts-requires Inv-loop μ-loop
@@ -40,49 +40,51 @@ cast-horizon c = search needs
 table-requires : tie.Need-table-requires Inv-loop μ-loop
 unfolding sizesOf
 table-requires c κs =
-    let c7 = c .before .before .before .before .before .before .before in
-    rw (ap (λ (r : Sizes). r .activities) (c .before .before .before .counts .ensures)) (c7 .pre .0 .few)
+    let c2 = c .before .before in
+    let c6 = c2 .before .before .before .before in
+    rw (ap (λ (r : Sizes). r .activities) (c2 .counts .ensures)) (c6 .pre .0 .few)
 
 table-requires-2 : tie.Need-table-requires-2 Inv-loop μ-loop
 unfolding sizesOf
 table-requires-2 c κs =
-    let c8 = c .before .before .before .before .before .before .before .before in
-    rw (ap (λ (r : Sizes). r .activities) (c .before .before .before .before .counts .ensures)) (c8 .pre .0 .few)
+    let c3 = c .before .before .before in
+    let c7 = c3 .before .before .before .before in
+    rw (ap (λ (r : Sizes). r .activities) (c3 .counts .ensures)) (c7 .pre .0 .few)
 
 table-requires-3 : tie.Need-table-requires-3 Inv-loop μ-loop
 unfolding sizesOf
 table-requires-3 c κs =
-    let c5 = c .before .before .before .before .before in
-    let c9 = c5 .before .before .before .before in
-    rw (ap (λ (r : Sizes). r .activities) (c5 .counts .ensures)) (c9 .pre .0 .few)
+    let c4 = c .before .before .before .before in
+    let c8 = c4 .before .before .before .before in
+    rw (ap (λ (r : Sizes). r .activities) (c4 .counts .ensures)) (c8 .pre .0 .few)
 
 table-requires-4 : tie.Need-table-requires-4 Inv-loop μ-loop
 unfolding sizesOf
 table-requires-4 c κs =
-    let c6 = c .before .before .before .before .before .before in
-    let c10 = c6 .before .before .before .before in
-    rw (ap (λ (r : Sizes). r .activities) (c6 .counts .ensures)) (c10 .pre .0 .few)
+    let c5 = c .before .before .before .before .before in
+    let c9 = c5 .before .before .before .before in
+    rw (ap (λ (r : Sizes). r .activities) (c5 .counts .ensures)) (c9 .pre .0 .few)
 
 table-requires-5 : tie.Need-table-requires-5 Inv-loop μ-loop
 unfolding sizesOf
 table-requires-5 c κs =
-    let c7 = c .before .before .before .before .before .before .before in
-    let c11 = c7 .before .before .before .before in
-    rw (ap (λ (r : Sizes). r .activities) (c7 .counts .ensures)) (c11 .pre .0 .few)
+    let c6 = c .before .before .before .before .before .before in
+    let c10 = c6 .before .before .before .before in
+    rw (ap (λ (r : Sizes). r .activities) (c6 .counts .ensures)) (c10 .pre .0 .few)
 
 before-masks-requires : tie.Need-before-masks-requires Inv-loop μ-loop
 unfolding sizesOf
 before-masks-requires c κs =
-    let c9 = c .before .before .before .before .before .before .before .before .before in
-    let c13 = c9 .before .before .before .before in
-    rw (ap (λ (r : Sizes). r .activities) (c9 .counts .ensures)) (c13 .pre .0 .few)
+    let c8 = c .before .before .before .before .before .before .before .before in
+    let c12 = c8 .before .before .before .before in
+    rw (ap (λ (r : Sizes). r .activities) (c8 .counts .ensures)) (c12 .pre .0 .few)
 
 table-requires-6 : tie.Need-table-requires-6 Inv-loop μ-loop
 unfolding sizesOf
 table-requires-6 c κs =
-    let c10 = c .before .before .before .before .before .before .before .before .before .before in
-    let c14 = c10 .before .before .before .before in
-    rw (ap (λ (r : Sizes). r .activities) (c10 .counts .ensures)) (c14 .pre .0 .few)
+    let c9 = c .before .before .before .before .before .before .before .before .before in
+    let c13 = c9 .before .before .before .before in
+    rw (ap (λ (r : Sizes). r .activities) (c9 .counts .ensures)) (c13 .pre .0 .few)
 
 unknown-requires : tie.Need-unknown-requires Inv-loop μ-loop
 unknown-requires c κs = search needs
@@ -94,17 +96,17 @@ loop-holds c =
     let c7 = c6 .before in
     let c8 = c7 .before in
     let c9 = c8 .before in
-    let c12 = c9 .before .before .before in
-    let c16 = c12 .before .before .before .before in (
-      running-start _ _ _ _ _ _ _ _ _ _ _ _ _ _ (ap (λ (r : Sizes). r .activities) (c12 .counts .ensures))
-          (ap (λ (r : Sizes). r .cores) (c12 .counts .ensures))
-          (ap (λ (r : Sizes). r .horizon) (c12 .counts .ensures))
-          (rw (ap (λ (r : Sizes). r .activities) (c12 .counts .ensures)) (c16 .pre .0 .few))
-          (omega (arith, c9 .struct-known3 .given))
-          (rw (ap (λ (r : Sizes). r .horizon) (c12 .counts .ensures)) (c16 .pre .1))
+    let c11 = c9 .before .before in
+    let c15 = c11 .before .before .before .before in (
+      running-start _ _ _ _ _ _ _ _ _ _ _ _ _ _ (ap (λ (r : Sizes). r .activities) (c11 .counts .ensures))
+          (ap (λ (r : Sizes). r .cores) (c11 .counts .ensures))
+          (ap (λ (r : Sizes). r .horizon) (c11 .counts .ensures))
+          (rw (ap (λ (r : Sizes). r .activities) (c11 .counts .ensures)) (c15 .pre .0 .few))
+          (omega (arith, c9 .struct-known2 .given))
+          (rw (ap (λ (r : Sizes). r .horizon) (c11 .counts .ensures)) (c15 .pre .1))
           (c8 .table .ensures) (c7 .table2 .ensures) (c6 .table3 .ensures) (c .before .before .before .before .before .table4 .ensures) (c .before .before .before .before .table5 .ensures)
           (c .before .before .before-masks .ensures) (c .before .table6 .ensures)
-          (record { sized = refl; filled = λ a l. getD-replicate 32 a 0 0 (omega (arith, ap (λ (r : Sizes). r .activities) (c12 .counts .ensures), c16 .pre .0 .few)) }),
+          (record { sized = refl; filled = λ a l. getD-replicate 32 a 0 0 (omega (arith, ap (λ (r : Sizes). r .activities) (c11 .counts .ensures), c15 .pre .0 .few)) }),
       lasts-unknown _ _ _ _ _ _ _ _ _ _ _ (c .unknown .ensures),
     )
 
@@ -162,7 +164,7 @@ loop-again c =
     let l = c16 .loop in
     let few = l .inv .0 .tabled .few in
     let step = c .before .before .before .before .step .ensures in (
-      running-next _ _ _ _ _ _ _ _ _ _ _ (l .grid) (l .owed) (l .ends) (l .t) (l .inv .0) (c7 .at .result .word) _ _ _ (c32 .before .pre .0 .masked) (c15 .loop-test .taken)
+      running-next _ _ _ _ _ _ _ _ _ _ _ (l .grid) (l .owed) (l .ends) (l .t) (l .inv .0) (c7 .at .result .word) _ _ _ (c32 .pre .0 .masked) (c15 .loop-test .taken)
           (c7 .at .ensures .0) (stepped-fewer _ _ _ _ _ _ _ (omega (arith, l .inv .0 .n-is, few)) step) (c .before .before .put32 .ensures),
       lasts-next _ _ _ _ _ _ _ (l .owed) (l .ends) _ _ (c7 .at .result) (l .t) (omega (arith, l .inv .0 .n-is, few)) (c7 .at .ensures .1) step,
     )

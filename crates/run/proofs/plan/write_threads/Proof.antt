@@ -24,8 +24,8 @@ abbrev μ-loop : tie.MeasureT-loop
 loop-holds : tie.Need-loop-holds Inv-loop μ-loop
 loop-holds c = (omega arith, refl, pairs-start _ _ _ _)
 
-thread-row-requires : tie.Need-thread-row-requires Inv-loop μ-loop
-thread-row-requires c κs = search needs
+timing-at-requires : tie.Need-timing-at-requires Inv-loop μ-loop
+timing-at-requires c κs = search needs
 
 cast-write-pair : tie.Need-cast-write-pair Inv-loop μ-loop
 cast-write-pair c = omega arith
@@ -50,7 +50,7 @@ unfolding timing
 loop-again c =
     let c6 = c .before .before .before .before .before .before in
     let l = c6 .loop in
-    let row = c .before .before .before .before .thread-row .ensures in (
+    let row = c .before .before .before .before .timing-at .ensures in (
       omega arith,
       c .before .before .write-pair .kept .0 ∙ l .inv .1,
       pairs-next _ (l .j) _ _ _ _ _ (l .out) _ (omega arith) (ap (λ (r : Timing). r .release) row) (ap (λ (r : Timing). r .period) row) (l .inv .2) (c .before .before .write-pair .ensures),
@@ -72,7 +72,7 @@ write-threads-spec =
     Inv-loop
     μ-loop
     loop-holds
-    thread-row-requires
+    timing-at-requires
     cast-write-pair
     mul-write-pair
     add-write-pair

@@ -10,7 +10,7 @@ use Rattle.run.proofs.tables.before_mask.Statement.{statement}
 use Rattle.run.proofs.tables.before_mask.Tie as tie
 
 abbrev Inv-loop : tie.InvT-loop
-Inv-loop n priorities a mask₀ b₀ mask b = (b ≤ n) × (mask ≡ beforesFrom b priorities a)
+Inv-loop n priorities a mask₀ b₀ mask b = (b ≤ n) × (mask ≡ beforesFrom b priorities (a .0))
 
 abbrev μ-loop : tie.MeasureT-loop
 μ-loop n priorities a mask₀ b₀ mask b = n - b
@@ -28,8 +28,8 @@ cast-mark c = omega arith
 mark-requires : tie.Need-mark-requires Inv-loop μ-loop
 mark-requires c κs = search needs
 
-add-b : tie.Need-add-b Inv-loop μ-loop
-add-b c = omega arith
+add-number : tie.Need-add-number Inv-loop μ-loop
+add-number c = omega arith
 
 loop-less : tie.Need-loop-less Inv-loop μ-loop
 loop-less c = omega arith
@@ -39,14 +39,14 @@ unfolding beforesFrom
 loop-again c = (
   omega arith,
   rw (c .mark .ensures, c .before .before .before .loop .inv .1)
-      (mark-next (c .before .before .before .loop .b) _ (c .before .before2 .result) (omega arith) (c .before .before2 .ensures)),
+      (mark-next (c .before .before .before .loop .number) _ (c .before .before2 .result) (omega arith) (c .before .before2 .ensures)),
 )
 
 returns : tie.Need-returns Inv-loop μ-loop
 returns c =
     let x = c .before .before .args in
-    let whole : c .before .loop .b ≡ x .n = omega arith in
-    c .before .loop .inv .1 ∙ ap (λ k. beforesFrom k (x .priorities .now) (x .a)) whole
+    let whole : c .before .loop .number ≡ x .n = omega arith in
+    c .before .loop .inv .1 ∙ ap (λ k. beforesFrom k (x .priorities .now) (x .a .0)) whole
 
 pub before-mask-spec : {M : Type 1} → statement M
 before-mask-spec =
@@ -58,7 +58,7 @@ before-mask-spec =
     before-requires
     cast-mark
     mark-requires
-    add-b
+    add-number
     loop-less
     loop-again
     returns)

@@ -82,15 +82,17 @@ returns-2 c =
 
 returns-3 : tie.Need-returns-3
 unfolding activityRowOf threadRowOf timing
-returns-3 c = rw (c .enum-told3 .given .1) (cc)
+returns-3 c =
+    rw (c .enum-told3 .given .1) (ap (λ (r : ActivityRow). r .«temporal_mask») (c .before .before .activity-row .ensures))
 
 returns-4 : tie.Need-returns-4
 unfolding activityRowOf threadRowOf timing
-returns-4 c = rw (c .enum-told4 .given .1) (cc)
+returns-4 c =
+    rw (c .enum-told4 .given .1) (ap (λ (r : ActivityRow). r .«data_mask») (c .before .before .activity-row .ensures))
 
 returns-5 : tie.Need-returns-5
 unfolding activityRowOf threadRowOf timing
-returns-5 c = rw (c .before .before .enum-told5 .given .1) (cc)
+returns-5 c = rw (c .before .before .enum-told5 .given .1) (c .wide3 .ensures ∙ c .before .duration .ensures)
 
 returns-6 : tie.Need-returns-6
 unfolding activityRowOf threadRowOf timing

@@ -20,11 +20,11 @@ abbrev μ-loop : tie.MeasureT-loop
 loop-holds : tie.Need-loop-holds Inv-loop μ-loop
 loop-holds c = (omega arith, filled-none _ _ refl)
 
-cast-t9 : tie.Need-cast-t9 Inv-loop μ-loop
-cast-t9 c = omega arith
-
 entry-requires : tie.Need-entry-requires Inv-loop μ-loop
 entry-requires c κs = search needs
+
+cast-entries : tie.Need-cast-entries Inv-loop μ-loop
+cast-entries c = omega arith
 
 mul-entries : tie.Need-mul-entries Inv-loop μ-loop
 mul-entries c = omega arith
@@ -32,18 +32,18 @@ mul-entries c = omega arith
 array-write-entries : tie.Need-array-write-entries Inv-loop μ-loop
 array-write-entries c = omega arith
 
-add-a : tie.Need-add-a Inv-loop μ-loop
-add-a c = omega arith
+add-number : tie.Need-add-number Inv-loop μ-loop
+add-number c = omega arith
 
 loop-less : tie.Need-loop-less Inv-loop μ-loop
 loop-less c = omega arith
 
 loop-again : tie.Need-loop-again Inv-loop μ-loop
-loop-again c = (omega arith, filled-next _ (c .before .before .loop .a) _ _ (omega arith) (c .before .before .loop .inv .1) (c .entry .ensures))
+loop-again c = (omega arith, filled-next _ (c .before .before .loop .number) _ _ (omega arith) (c .before .before .loop .inv .1) (c .entry .ensures))
 
 returns : tie.Need-returns Inv-loop μ-loop
 returns c =
-    let whole : c .before .loop .a ≡ c .before .before .before .before .args .n = omega arith in
+    let whole : c .before .loop .number ≡ c .before .before .before .before .args .n = omega arith in
     rw whole at (c .before .loop .inv .1)
 
 pub table-spec : {M : Type 1} → statement M
@@ -53,11 +53,11 @@ table-spec =
     Inv-loop
     μ-loop
     loop-holds
-    cast-t9
     entry-requires
+    cast-entries
     mul-entries
     array-write-entries
-    add-a
+    add-number
     loop-less
     loop-again
     returns)
