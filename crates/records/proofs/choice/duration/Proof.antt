@@ -31,7 +31,7 @@ be16-requires c κs = search needs
 
 returns : tie.Need-returns
 unfolding choice
-returns c = cc
+returns c = rw (← c .before .byte .ensures, ← c .be16 .ensures)
 
 pub duration-spec : {M : Type 1} → statement M
 duration-spec =

@@ -31,7 +31,7 @@ add-result-2 c = search needs
 
 returns : tie.Need-returns
 unfolding choice
-returns c = cc
+returns c = rw (← c .before .byte .ensures, ← c .byte2 .ensures)
 
 pub formula-spec : {M : Type 1} → statement M
 formula-spec =

@@ -8,7 +8,7 @@ be32-requires : tie.Need-be32-requires
 be32-requires c κs = search needs
 
 returns : tie.Need-returns
-returns c = cc
+returns c = rw (← c .be32 .ensures)
 
 pub formula-holds-spec : {M : Type 1} → statement M
 formula-holds-spec = tie.close (tie.spec be32-requires returns)

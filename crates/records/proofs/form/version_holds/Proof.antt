@@ -8,7 +8,7 @@ byte-requires : tie.Need-byte-requires
 byte-requires c κs = search needs
 
 returns : tie.Need-returns
-returns c = cc
+returns c = rw (← c .byte .ensures)
 
 pub version-holds-spec : {M : Type 1} → statement M
 version-holds-spec = tie.close (tie.spec byte-requires returns)

@@ -62,7 +62,16 @@ be32-requires-2 c κs = search needs
 
 returns : tie.Need-returns
 unfolding activityRowOf model
-returns c = cc
+returns c =
+    rw (
+      ← c .before .before .before .before .before .before .byte .ensures,
+      ← c .before .before .before .before .before .byte2 .ensures,
+      ← c .before .before .before .before .be16 .ensures,
+      ← c .before .before .before .be162 .ensures,
+      ← c .before .before .be163 .ensures,
+      ← c .before .be32 .ensures,
+      ← c .be322 .ensures,
+    )
 
 pub activity-row-spec : {M : Type 1} → statement M
 activity-row-spec =

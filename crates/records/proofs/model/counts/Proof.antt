@@ -20,7 +20,13 @@ be16-requires c κs = search needs
 
 returns : tie.Need-returns
 unfolding sizesOf model
-returns c = cc
+returns c =
+    rw (
+      ← c .before .before .before .byte .ensures,
+      ← c .before .before .byte2 .ensures,
+      ← c .before .byte3 .ensures,
+      ← c .be16 .ensures,
+    )
 
 pub counts-spec : {M : Type 1} → statement M
 counts-spec =

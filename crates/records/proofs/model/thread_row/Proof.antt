@@ -44,7 +44,14 @@ be16-requires-5 c κs = search needs
 
 returns : tie.Need-returns
 unfolding threadRowOf model
-returns c = cc
+returns c =
+    rw (
+      ← c .before .before .before .before .be16 .ensures,
+      ← c .before .before .before .be162 .ensures,
+      ← c .before .before .be163 .ensures,
+      ← c .before .be164 .ensures,
+      ← c .be165 .ensures,
+    )
 
 pub thread-row-spec : {M : Type 1} → statement M
 thread-row-spec =

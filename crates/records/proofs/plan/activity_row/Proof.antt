@@ -38,7 +38,7 @@ be16-requires-2 c κs = search needs
 
 returns : tie.Need-returns
 unfolding spanOf plan
-returns c = cc
+returns c = rw (← c .before .before .byte .ensures, ← c .before .be16 .ensures, ← c .be162 .ensures)
 
 pub activity-row-spec : {M : Type 1} → statement M
 activity-row-spec =

@@ -22,8 +22,11 @@ be16-requires-2 c κs = search needs
 returns-2 : tie.Need-returns-2
 unfolding horizonHolds
 returns-2 c =
-    rw (told-yes (c .before .before .before .counts-hold .ensures) (c .before .before .if1 .left))
-    (cc)
+    rw (
+      told-yes (c .before .before .before .counts-hold .ensures) (c .before .before .if1 .left),
+      ← c .before .be16 .ensures,
+      ← c .be162 .ensures,
+    )
 
 pub counts-hold-spec : {M : Type 1} → statement M
 counts-hold-spec =

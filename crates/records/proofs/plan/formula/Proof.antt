@@ -43,7 +43,7 @@ add-result-3 c = search needs
 
 returns : tie.Need-returns
 unfolding plan
-returns c = cc
+returns c = rw (← c .before .before .byte .ensures, ← c .before .byte2 .ensures, ← c .be16 .ensures)
 
 pub formula-spec : {M : Type 1} → statement M
 formula-spec =

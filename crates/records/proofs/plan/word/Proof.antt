@@ -40,7 +40,7 @@ be32-requires c κs = search needs
 
 returns : tie.Need-returns
 unfolding plan
-returns c = cc
+returns c = rw (← c .before .before .byte .ensures, ← c .before .byte2 .ensures, ← c .be32 .ensures)
 
 pub word-spec : {M : Type 1} → statement M
 word-spec =

@@ -11,10 +11,10 @@ enum-known-self : tie.Need-enum-known-self
 enum-known-self c = search needs
 
 returns : tie.Need-returns
-returns c = cc
+returns c = rw (c .enum-told .given .1)
 
 returns-2 : tie.Need-returns-2
-returns-2 c = cc
+returns-2 c = rw (c .before .self .given .1)
 
 pub pass-spec : {M : Type 1} → statement M
 pass-spec = tie.close (tie.spec enum-told enum-known-self returns returns-2)
