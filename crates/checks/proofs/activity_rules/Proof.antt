@@ -13,10 +13,10 @@ use Rattle.checks.proofs.activity_rules.Statement.{statement}
 use Rattle.checks.proofs.activity_rules.Tie as tie
 
 abbrev Inv-loop : tie.InvT-loop
-Inv-loop s r outside counts finishes ends delays k₀ k = (k ≤ 7) × (firstBreak (drop k (activityRules (model s) (plan r))) ≡ firstBreak (activityRules (model s) (plan r)))
+Inv-loop s r sizes outside counts finishes ends delays k₀ k = (k ≤ 7) × (firstBreak (drop k (activityRules (model s) (plan r))) ≡ firstBreak (activityRules (model s) (plan r)))
 
 abbrev μ-loop : tie.MeasureT-loop
-μ-loop s r outside counts finishes ends delays k₀ k = 7 - k
+μ-loop s r sizes outside counts finishes ends delays k₀ k = 7 - k
 
 loop-holds : tie.Need-loop-holds Inv-loop μ-loop
 loop-holds c = (omega arith, refl)

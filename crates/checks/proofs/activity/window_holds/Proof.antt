@@ -18,25 +18,22 @@ use Rattle.checks.proofs.activity.window_holds.Tie as tie
 activity-row-requires : tie.Need-activity-row-requires
 activity-row-requires c κs = search needs
 
-counts-requires : tie.Need-counts-requires
-counts-requires c κs = search needs
-
 returns : tie.Need-returns
 unfolding window spanOf sizesOf
 returns c =
-    let x = c .before .before .before .before .before .args in
-    let start : c .before .before .activity-row .result .start ≡ plan (x .r .now) .start (x .a .0) = ap (λ (y : Span). y .start) (c .before .before .activity-row .ensures) in
-    let end : c .before .before .activity-row .result .end ≡ plan (x .r .now) .end (x .a .0) = ap (λ (y : Span). y .end) (c .before .before .activity-row .ensures) in
-    let horizon : c .before .counts .result .horizon ≡ model (x .s .now) .horizon = ap (λ (y : Sizes). y .horizon) (c .before .counts .ensures) in
+    let x = c .before .before .before .before .args in
+    let start : c .before .activity-row .result .start ≡ plan (x .r .now) .start (x .a .0) = ap (λ (y : Span). y .start) (c .before .activity-row .ensures) in
+    let end : c .before .activity-row .result .end ≡ plan (x .r .now) .end (x .a .0) = ap (λ (y : Span). y .end) (c .before .activity-row .ensures) in
+    let horizon : x .sizes .horizon ≡ model (x .s .now) .horizon = ap (λ (y : Sizes). y .horizon) (c .before .before .before .before .pre .0) in
     simp (← start, ← end, le-ltb _ _ (c .if1 .taken))
 
 returns-2 : tie.Need-returns-2
 unfolding window spanOf sizesOf
 returns-2 c =
-    let x = c .before .before .before .before .before .before .args in
-    let start : c .before .before .before .activity-row .result .start ≡ plan (x .r .now) .start (x .a .0) = ap (λ (y : Span). y .start) (c .before .before .before .activity-row .ensures) in
-    let end : c .before .before .before .activity-row .result .end ≡ plan (x .r .now) .end (x .a .0) = ap (λ (y : Span). y .end) (c .before .before .before .activity-row .ensures) in
-    let horizon : c .before .before .counts .result .horizon ≡ model (x .s .now) .horizon = ap (λ (y : Sizes). y .horizon) (c .before .before .counts .ensures) in
+    let x = c .before .before .before .before .before .args in
+    let start : c .before .before .activity-row .result .start ≡ plan (x .r .now) .start (x .a .0) = ap (λ (y : Span). y .start) (c .before .before .activity-row .ensures) in
+    let end : c .before .before .activity-row .result .end ≡ plan (x .r .now) .end (x .a .0) = ap (λ (y : Span). y .end) (c .before .before .activity-row .ensures) in
+    let horizon : x .sizes .horizon ≡ model (x .s .now) .horizon = ap (λ (y : Sizes). y .horizon) (c .before .before .before .before .before .pre .0) in
     simp (← start, ← end, ← horizon, lt-ltb _ _ (c .before .if1 .left), lt-leb _ _ (c .if2 .taken))
 
 word-requires : tie.Need-word-requires
@@ -51,10 +48,10 @@ has-requires c κs = search needs
 returns-3 : tie.Need-returns-3
 unfolding window spanOf sizesOf
 returns-3 c =
-    let x = c .before .before .before .before .before .before .before .before .before .args in
-    let start : c .before .before .before .before .before .before .activity-row .result .start ≡ plan (x .r .now) .start (x .a .0) = ap (λ (y : Span). y .start) (c .before .before .before .before .before .before .activity-row .ensures) in
-    let end : c .before .before .before .before .before .before .activity-row .result .end ≡ plan (x .r .now) .end (x .a .0) = ap (λ (y : Span). y .end) (c .before .before .before .before .before .before .activity-row .ensures) in
-    let horizon : c .before .before .before .before .before .counts .result .horizon ≡ model (x .s .now) .horizon = ap (λ (y : Sizes). y .horizon) (c .before .before .before .before .before .counts .ensures) in
+    let x = c .before .before .before .before .before .before .before .before .args in
+    let start : c .before .before .before .before .before .activity-row .result .start ≡ plan (x .r .now) .start (x .a .0) = ap (λ (y : Span). y .start) (c .before .before .before .before .before .activity-row .ensures) in
+    let end : c .before .before .before .before .before .activity-row .result .end ≡ plan (x .r .now) .end (x .a .0) = ap (λ (y : Span). y .end) (c .before .before .before .before .before .activity-row .ensures) in
+    let horizon : x .sizes .horizon ≡ model (x .s .now) .horizon = ap (λ (y : Sizes). y .horizon) (c .before .before .before .before .before .before .before .before .pre .0) in
     simp (
       ← start,
       ← end,
@@ -80,10 +77,10 @@ has-requires-2 c κs = search needs
 returns-4 : tie.Need-returns-4
 unfolding window spanOf sizesOf
 returns-4 c =
-    let x = c .before .before .before .before .before .before .before .before .before .before .before .before .args in
-    let start : c .before .before .before .before .before .before .before .before .before .activity-row .result .start ≡ plan (x .r .now) .start (x .a .0) = ap (λ (y : Span). y .start) (c .before .before .before .before .before .before .before .before .before .activity-row .ensures) in
-    let end : c .before .before .before .before .before .before .before .before .before .activity-row .result .end ≡ plan (x .r .now) .end (x .a .0) = ap (λ (y : Span). y .end) (c .before .before .before .before .before .before .before .before .before .activity-row .ensures) in
-    let horizon : c .before .before .before .before .before .before .before .before .counts .result .horizon ≡ model (x .s .now) .horizon = ap (λ (y : Sizes). y .horizon) (c .before .before .before .before .before .before .before .before .counts .ensures) in
+    let x = c .before .before .before .before .before .before .before .before .before .before .before .args in
+    let start : c .before .before .before .before .before .before .before .before .activity-row .result .start ≡ plan (x .r .now) .start (x .a .0) = ap (λ (y : Span). y .start) (c .before .before .before .before .before .before .before .before .activity-row .ensures) in
+    let end : c .before .before .before .before .before .before .before .before .activity-row .result .end ≡ plan (x .r .now) .end (x .a .0) = ap (λ (y : Span). y .end) (c .before .before .before .before .before .before .before .before .activity-row .ensures) in
+    let horizon : x .sizes .horizon ≡ model (x .s .now) .horizon = ap (λ (y : Sizes). y .horizon) (c .before .before .before .before .before .before .before .before .before .before .before .pre .0) in
     simp (
       ← start,
       ← end,
@@ -105,25 +102,24 @@ has-requires-3 c κs = search needs
 returns-5 : tie.Need-returns-5
 unfolding spanOf sizesOf
 returns-5 c =
-    let x = c .before .before .before .before .before .before .before .before .before .before .before .before .before .args in
+    let x = c .before .before .before .before .before .before .before .before .before .before .before .before .args in
     let p = plan (x .r .now) in
-    let row = c .before .before .before .before .before .before .before .before .before .before .activity-row .ensures in
-    let start : c .before .before .before .before .before .before .before .before .before .before .activity-row .result .start ≡ p .start (x .a .0) = ap (λ (y : Span). y .start) row in
-    let end : c .before .before .before .before .before .before .before .before .before .before .activity-row .result .end ≡ p .end (x .a .0) = ap (λ (y : Span). y .end) row in
-    let horizon : c .before .before .before .before .before .before .before .before .before .counts .result .horizon ≡ model (x .s .now) .horizon = ap (λ (y : Sizes). y .horizon) (c .before .before .before .before .before .before .before .before .before .counts .ensures) in
+    let row = c .before .before .before .before .before .before .before .before .before .activity-row .ensures in
+    let start : c .before .before .before .before .before .before .before .before .before .activity-row .result .start ≡ p .start (x .a .0) = ap (λ (y : Span). y .start) row in
+    let end : c .before .before .before .before .before .before .before .before .before .activity-row .result .end ≡ p .end (x .a .0) = ap (λ (y : Span). y .end) row in
+    let horizon : x .sizes .horizon ≡ model (x .s .now) .horizon = ap (λ (y : Sizes). y .horizon) (c .before .before .before .before .before .before .before .before .before .before .before .before .pre .0) in
     window-outside (model (x .s .now)) p (x .a .0) (c .has3 .result)
     (sym (ap₂ ltb start end) ∙ lt-ltb _ _ (c .before .before .before .before .before .before .before .before .if1 .left))
     (sym (ap₂ leb end horizon) ∙ le-leb _ _ (c .before .before .before .before .before .before .before .if2 .left))
     (ap (λ t. active p t (x .a .0)) (sym start) ∙ sym (ap (λ w. bit w (x .a .0)) (c .before .before .before .before .before .before .word .ensures)) ∙ sym (c .before .before .before .before .before .has .ensures) ∙ not-false _ (c .before .before .before .before .if3 .left))
     (ap (λ t. active p (t - 1) (x .a .0)) (sym end) ∙ sym (ap (λ w. bit w (x .a .0)) (c .before .before .before .word2 .ensures)) ∙ sym (c .before .before .has2 .ensures) ∙ not-false _ (c .before .if4 .left))
-    (c .has3 .ensures ∙ c .before .before .before .before .before .before .before .before .before .before .before .before .before .pre)
+    (c .has3 .ensures ∙ c .before .before .before .before .before .before .before .before .before .before .before .before .pre .1)
 
 pub window-holds-spec : {M : Type 1} → statement M
 window-holds-spec =
     tie.close
     (tie.spec
     activity-row-requires
-    counts-requires
     returns
     returns-2
     word-requires

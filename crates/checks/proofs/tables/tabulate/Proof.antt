@@ -21,12 +21,9 @@ Inv-loop column s r n table₀ a₀ table a =
 abbrev μ-loop : tie.MeasureT-loop
 μ-loop column s r n table₀ a₀ table a = n - a
 
-counts-requires : tie.Need-counts-requires Inv-loop μ-loop
-counts-requires c κs = search needs
-
 loop-holds : tie.Need-loop-holds Inv-loop μ-loop
 unfolding sizesOf
-loop-holds c = (omega arith, ap (λ (y : Sizes). y .activities) (c .counts .ensures), c .before .before .before .pre, refl, λ i l. absurd (omega arith))
+loop-holds c = (omega arith, ap (λ (y : Sizes). y .activities) (c .before .before .pre .0), c .before .before .pre .1, refl, λ i l. absurd (omega arith))
 
 value-requires : tie.Need-value-requires Inv-loop μ-loop
 value-requires c κs = search needs
@@ -49,7 +46,7 @@ loop-less c = omega arith
 loop-again : tie.Need-loop-again Inv-loop μ-loop
 loop-again c =
     let l = c .before .before .loop in
-    let x = c .before .before .before .before .before .before .args in (
+    let x = c .before .before .before .before .before .args in (
       omega arith,
       l .inv .1,
       l .inv .2,
@@ -68,7 +65,6 @@ tabulate-spec =
     (tie.spec
     Inv-loop
     μ-loop
-    counts-requires
     loop-holds
     value-requires
     cast-table

@@ -27,9 +27,6 @@ Inv-loop rule s r froms ends masks cores n horizon waitable₀ t₀ waitable t =
 abbrev μ-loop : tie.MeasureT-loop
 μ-loop rule s r froms ends masks cores n horizon waitable₀ t₀ waitable t = horizon - t
 
-counts-requires : tie.Need-counts-requires Inv-loop μ-loop
-counts-requires c κs = search needs
-
 cast-cores : tie.Need-cast-cores Inv-loop μ-loop
 cast-cores c = search needs
 
@@ -42,12 +39,12 @@ unknown-requires c κs = search needs
 loop-holds : tie.Need-loop-holds Inv-loop μ-loop
 unfolding sizesOf
 loop-holds c =
-    let e = c .before .before .before .counts .ensures in (
+    let e = c .before .before .before .before .before .pre .0 in (
       omega arith,
       ap (λ (y : Sizes). y .horizon) e,
       ap (λ (y : Sizes). y .activities) e,
       ap (λ (y : Sizes). y .cores) e,
-      c .before .before .before .before .before .before .pre,
+      c .before .before .before .before .before .pre .1,
       clear-start _,
       unknown-stands _ _ _ _ _ (c .unknown .ensures),
     )
@@ -79,7 +76,7 @@ refused-requires c κs = search needs
 returns : tie.Need-returns Inv-loop μ-loop
 returns c =
     let l = c .before .before .before .before .before .before .before .before .loop in
-    let x = c .before .before .before .before .before .before .before .before .before .before .before .before .before .before .before .args in
+    let x = c .before .before .before .before .before .before .before .before .before .before .before .before .before .before .args in
     let m = model (x .s .now) in
     let p = plan (x .r .now) in
     let mask =
@@ -102,7 +99,7 @@ loop-less c = omega arith
 loop-again : tie.Need-loop-again Inv-loop μ-loop
 loop-again c =
     let l = c .before .before .before .before .before .before .loop in
-    let x = c .before .before .before .before .before .before .before .before .before .before .before .before .before .args in
+    let x = c .before .before .before .before .before .before .before .before .before .before .before .before .args in
     let m = model (x .s .now) in
     let p = plan (x .r .now) in
     let mask =
@@ -122,7 +119,7 @@ loop-again c =
 returns-2 : tie.Need-returns-2 Inv-loop μ-loop
 returns-2 c =
     let l = c .before .loop in
-    let x = c .before .before .before .before .before .before .before .before .args in
+    let x = c .before .before .before .before .before .before .before .args in
     let r = tickRule (x .rule) (model (x .s .now)) (plan (x .r .now)) in
     let whole : l .t ≡ r .rows = omega (arith, tick-rows (x .rule) (model (x .s .now)) (plan (x .r .now)), l .inv .1) in
     sym (clear-end r (subst (ClearTo r) whole (l .inv .5)))
@@ -133,7 +130,6 @@ over-ticks-spec =
     (tie.spec
     Inv-loop
     μ-loop
-    counts-requires
     cast-cores
     cast-n
     unknown-requires
