@@ -19,6 +19,22 @@ struct Lines {
     length: usize,
 }
 
+// The two lines for the bytes that are taken as all there is.
+fn verdicts(taken: &[u8]) -> Lines
+    requires { ⌜ length (now taken) ≤ inputLimit ⌝ }
+    ensures { λ r. ⌜ r .length ≤ length (r .bytes) ⌝ }
+    ensures { λ r. ⌜ (r .length ≡ length (gridcheck (now (taken .entry))))
+        × (take (r .length) (r .bytes) ≡ gridcheck (now (taken .entry))) ⌝ }
+{
+    let model = streams::first_record(taken);
+    let plan = streams::second_record(taken);
+    let plain = checks::check_plain(model, plan);
+    let strict = checks::check_strict(model, plan);
+    let mut bytes = [0u8; ROOM];
+    let length = text::check_lines(&mut bytes, plain, strict);
+    Lines { bytes, length }
+}
+
 // The two lines for the first bytes of the input, as many as were read. The array that is read into has the limit's length.
 fn answer(input: &[u8; LIMIT], read: usize) -> Lines
     ensures { λ _. ⌜ length (now (input .entry)) ≡ inputLimit ⌝ }
@@ -27,14 +43,7 @@ fn answer(input: &[u8; LIMIT], read: usize) -> Lines
         × (take (r .length) (r .bytes) ≡ gridcheck (take read (now (input .entry)))) ⌝ }
 {
     let all = &input[..];
-    let taken = streams::front(all, read);
-    let model = streams::first_record(taken);
-    let plan = streams::second_record(taken);
-    let plain = checks::check_plain(model, plan);
-    let strict = checks::check_strict(model, plan);
-    let mut bytes = [0u8; ROOM];
-    let length = text::check_lines(&mut bytes, plain, strict);
-    Lines { bytes, length }
+    verdicts(streams::front(all, read))
 }
 
 // Where a read fails nothing is printed.

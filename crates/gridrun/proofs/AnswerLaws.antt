@@ -3,10 +3,9 @@
 -- Assumes nothing.
 use Prim.Native.Nat.{ℕ, _≤_}
 use native.Mathlib.Nat.{le-trans}
-use native.Mathlib.Omega.{arith}
 use mathlib.Core.List.{List}
 use mathlib.Core.Path.{_≡_, sym, subst, ap, ap₂, _∙_}
-use lib.ListN.{length, take, length-take}
+use lib.ListN.{length, take}
 use Rattle.schedule.specs.Fields.{Bytes}
 use Rattle.schedule.specs.Model.{model}
 use Rattle.schedule.specs.Choice.{choice}
@@ -14,7 +13,7 @@ use Rattle.schedule.specs.Plan.{plan}
 use Rattle.schedule.specs.Answers.{Answer, Written, machinePlan, runAnswer, runBuffer}
 use Rattle.schedule.specs.Streams.{inputLimit, firstRecord, secondRecord, taken}
 use Rattle.schedule.specs.Lines.{runRoom, runLines, gridrun}
-use Rattle.laws.proofs.LinesLaws.{taken-whole, bytes-take, second-bytes}
+use Rattle.laws.proofs.LinesLaws.{taken-whole, second-bytes}
 use Rattle.demands.proofs.Fits.{gridrun-fits}
 use Rattle.demands.proofs.Page.{page-written}
 use Rattle.text.specs.Printed.{leaves, printed}
@@ -34,17 +33,12 @@ lines s m q buffer buffer′ verdict h bytes first second room e f =
     (first ∙ ap firstRecord whole) second-whole
 
 -- printed into an array that holds 57,390 bytes
-pub answered : (input : List ℕ) (read : ℕ) (old : List ℕ) {s m q buffer buffer′ new : List ℕ} {verdict : Answer Written} {r : ℕ}
-    → length input ≤ inputLimit → Bytes input → s ≡ take read input → m ≡ firstRecord s → q ≡ secondRecord s
+pub answered : (s m q buffer buffer′ : List ℕ) (verdict : Answer Written) (old : List ℕ) {new : List ℕ} {r : ℕ}
+    → length s ≤ inputLimit → Bytes s → m ≡ firstRecord s → q ≡ secondRecord s
     → length buffer ≡ runRoom → verdict ≡ runAnswer m q (length buffer) → buffer′ ≡ runBuffer m q buffer
     → 57390 ≤ length old → leaves r new ≡ printed (runLines verdict (plan buffer′)) old
-    → (r ≡ length (gridrun (take read input))) × (take r new ≡ gridrun (take read input))
-answered input read old {m = m} {q = q} {buffer = buffer} {buffer′ = buffer′} {verdict = verdict}
-    h bytes taken first second room e f fits p =
-    let s = take read input in
-    let s-bytes = bytes-take read input bytes in
-    let limit : length s ≤ inputLimit = omega (arith, length-take read input) in
-    let made =
-    lines s m q buffer buffer′ verdict limit s-bytes (first ∙ ap firstRecord taken) (second ∙ ap secondRecord taken) room e f in
-    printed-fits (gridrun s) old (le-trans (gridrun-fits s s-bytes) fits)
+    → (r ≡ length (gridrun s)) × (take r new ≡ gridrun s)
+answered s m q buffer buffer′ verdict old h bytes first second room e f fits p =
+    let made = lines s m q buffer buffer′ verdict h bytes first second room e f in
+    printed-fits (gridrun s) old (le-trans (gridrun-fits s bytes) fits)
     (p ∙ ap (λ (l : List ℕ). printed l old) made)

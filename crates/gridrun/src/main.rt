@@ -23,6 +23,22 @@ struct Lines {
     length: usize,
 }
 
+// The lines for the bytes that are taken as all there is.
+fn page(taken: &[u8]) -> Lines
+    requires { ⌜ length (now taken) ≤ inputLimit ⌝ }
+    ensures { λ r. ⌜ r .length ≤ length (r .bytes) ⌝ }
+    ensures { λ r. ⌜ (r .length ≡ length (gridrun (now (taken .entry))))
+        × (take (r .length) (r .bytes) ≡ gridrun (now (taken .entry))) ⌝ }
+{
+    let model = streams::first_record(taken);
+    let choice = streams::second_record(taken);
+    let mut plan = [0u8; PLAN];
+    let verdict = run::run(model, choice, &mut plan);
+    let mut bytes = [0u8; ROOM];
+    let length = text::run_lines(&mut bytes, verdict, &plan);
+    Lines { bytes, length }
+}
+
 // The lines for the first bytes of the input, as many as were read. The array that is read into has the limit's length.
 fn answer(input: &[u8; LIMIT], read: usize) -> Lines
     ensures { λ _. ⌜ length (now (input .entry)) ≡ inputLimit ⌝ }
@@ -31,16 +47,7 @@ fn answer(input: &[u8; LIMIT], read: usize) -> Lines
         × (take (r .length) (r .bytes) ≡ gridrun (take read (now (input .entry)))) ⌝ }
 {
     let all = &input[..];
-    let taken = streams::front(all, read);
-    let mut plan = [0u8; PLAN];
-    let verdict = run::run(
-        streams::first_record(taken),
-        streams::second_record(taken),
-        &mut plan,
-    );
-    let mut bytes = [0u8; ROOM];
-    let length = text::run_lines(&mut bytes, verdict, &plan);
-    Lines { bytes, length }
+    page(streams::front(all, read))
 }
 
 // Where a read fails nothing is printed.

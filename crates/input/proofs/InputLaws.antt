@@ -12,7 +12,7 @@ use Rattle.input.specs.declared.Input.the-variants.{Bytes}
 use Rattle.input.specs.Filled.{came, Filled, FilledFrom}
 
 pub bytes-le : (r : Input) (n : ℕ) (old new : List ℕ) → Filled r old new → r ≡ Bytes n → n ≤ length old
-bytes-le r n old new h e = subst (λ (x : Input). came x ≤ length old) e (h .within)
+bytes-le r n old new h e = subst (λ (x : Input). came x ≤ length old) e (h .0)
 
 pub stored-next : (old chunk buf : List ℕ) (at i : ℕ) → buf ≡ paste old at chunk i → at + i < length old
     → i < length chunk → set buf (at + i) (getD chunk i 0) ≡ paste old at chunk (i + 1)
@@ -30,7 +30,7 @@ pub read-stored : (done more : ℕ) (old new chunk : List ℕ) → done + more �
     → new ≡ paste old done chunk more → FilledFrom done (Bytes (done + more)) old new
 read-stored done more old new chunk h l e = record {
   more = omega arith;
-  filled = record { within = h; behind = ap (drop (done + more)) e ∙ drop-paste old done chunk more (omega arith) l };
+  filled = (h, ap (drop (done + more)) e ∙ drop-paste old done chunk more (omega arith) l);
 }
 
 -- what is the same from a position on is the same from a later one on
@@ -46,17 +46,17 @@ drop-later a b k n h e =
 -- a read behind others leaves the bytes behind all of them as they were at first
 pub filled-after : (done : ℕ) (r : Input) (old mid new : List ℕ) → length mid ≡ length old → drop done mid ≡ drop done old
     → FilledFrom done r mid new → Filled r old new
-filled-after done r old mid new same e h = record {
-  within = omega (arith, h .filled .within);
-  behind = h .filled .behind ∙ drop-later mid old done (came r) (h .more) e;
-}
+filled-after done r old mid new same e h = (
+  omega (arith, h .filled .0),
+  h .filled .1 ∙ drop-later mid old done (came r) (h .more) e,
+)
 
-pub filled-told : (r r′ : Input) {old new : List ℕ} → r ≡ r′ → Filled r old new → Filled r′ old new
-filled-told r r′ {old} {new} e h = subst (λ (x : Input). Filled x old new) e h
+pub filled-told : (r r′ : Input) (old new : List ℕ) → r ≡ r′ → Filled r old new → Filled r′ old new
+filled-told r r′ old new e h = subst (λ (x : Input). Filled x old new) e h
 
 -- the same where the read answered bytes
 pub filled-bytes : (r : Input) (n : ℕ) (old new : List ℕ) → r ≡ Bytes n → Filled r old new → drop n new ≡ drop n old
-filled-bytes r n old new e h = subst (λ (x : Input). drop (came x) new ≡ drop (came x) old) e (h .behind)
+filled-bytes r n old new e h = subst (λ (x : Input). drop (came x) new ≡ drop (came x) old) e (h .1)
 
 pub more-bytes : (r : Input) (n done : ℕ) (old new : List ℕ) → r ≡ Bytes n → FilledFrom done r old new → done ≤ n
 more-bytes r n done old new e h = subst (λ (x : Input). done ≤ came x) e (h .more)

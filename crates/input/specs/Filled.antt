@@ -13,9 +13,8 @@ came (Bytes n) = n
 came (Failed n) = n
 
 -- they stand within the buffer, and every byte behind them is as it was
-pub record Filled (r : Input) (old new : List ℕ) : Type 0 where
-  pub within : came r ≤ length old
-  pub behind : drop (came r) new ≡ drop (came r) old
+abbrev pub Filled : Input → List ℕ → List ℕ → Type 0
+Filled r old new = (came r ≤ length old) × (drop (came r) new ≡ drop (came r) old)
 
 -- the same of bytes that came behind others
 pub record FilledFrom (done : ℕ) (r : Input) (old new : List ℕ) : Type 0 where

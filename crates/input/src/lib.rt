@@ -2,9 +2,9 @@
 // that every byte behind them is the caller's old one, is said. So a read goes by way of an array of its own.
 ghost use mathlib.Core.Path.{_≡_};
 ghost use Prim.Native.Nat.{_+_, _≤_};
-ghost use lib.ListN.{length};
+ghost use lib.ListN.{length, drop};
 ghost use lib.Seq.{paste};
-ghost use Rattle.input.specs.Filled.{Filled, FilledFrom};
+ghost use Rattle.input.specs.Filled.{came, FilledFrom};
 
 pub enum Input {
     // The input ended or the buffer is full: so many bytes stand at the front.
@@ -73,7 +73,8 @@ fn read_at(buf: &mut [u8], done: usize, chunk: &mut [u8]) -> Input
 
 // Short reads go on until the buffer is full, the input ends or a read fails.
 pub fn fill(buf: &mut [u8]) -> Input
-    ensures { λ r. ⌜ Filled r (now (buf .entry)) (now (buf .exit)) ⌝ }
+    ensures { λ r. ⌜ (came r ≤ length (now (buf .entry)))
+        × (drop (came r) (now (buf .exit)) ≡ drop (came r) (now (buf .entry))) ⌝ }
 {
     let mut space = io::buffer();
     let chunk: &mut [u8] = &mut space;

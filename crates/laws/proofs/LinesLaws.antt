@@ -79,7 +79,7 @@ unfolding taken
 taken-whole s h = take-all inputLimit s h
 
 -- the first bytes, and the second record of bytes, are bytes
-pub bytes-take : (n : ℕ) (s : List ℕ) → Bytes s → Bytes (take n s)
+bytes-take : (n : ℕ) (s : List ℕ) → Bytes s → Bytes (take n s)
 bytes-take n s h i l = rw (getD-take n s i 0 (omega (arith, length-take n s))) (byte-lt s h i)
 
 bytes-second : (s : List ℕ) → Bytes s → Bytes (secondRecord s)

@@ -5,7 +5,7 @@ use Prim.Native.Nat.{ℕ, _≤_}
 use native.Mathlib.Omega.{arith}
 use mathlib.Core.Bool.{Bool, true, false, cond}
 use mathlib.Core.List.{List, _++_}
-use mathlib.Core.Path.{_≡_, refl, ap, _∙_}
+use mathlib.Core.Path.{_≡_, refl, ap, subst, _∙_}
 use lib.Dec.{T, leb, leb→le}
 use lib.ListN.{length, take, drop}
 use lib.Seq.{take-at}
@@ -37,3 +37,8 @@ printed-fits text old {r} {new} h e =
           ∙ ap (λ (n : ℕ). take n (text ++ drop (length text) old)) count
           ∙ take-at text (drop (length text) old) (length text) refl,
     )
+
+-- what is printed of some bytes is printed of equal ones
+pub printed-of : (f : List ℕ → List ℕ) {s s′ : List ℕ} (r : ℕ) (new : List ℕ) → s ≡ s′
+    → (r ≡ length (f s)) × (take r new ≡ f s) → (r ≡ length (f s′)) × (take r new ≡ f s′)
+printed-of f r new e h = subst (λ (x : List ℕ). (r ≡ length (f x)) × (take r new ≡ f x)) e h

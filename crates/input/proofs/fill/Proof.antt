@@ -50,7 +50,7 @@ returns-2 : tie.Need-returns-2 Inv-loop μ-loop
 returns-2 c =
     let read = c .before .before .before .before .before .before .before .before .before in
     let k = read .before .before .before .before .loop in
-    filled-told (read .read-at .result) _ (c .before .before .before .read .given .1)
+    filled-told (read .read-at .result) _ _ _ (c .before .before .before .read .given .1)
     (filled-after (k .done) (read .read-at .result) _ (k .buf) _ (k .inv .1 .0) (k .inv .1 .1) (read .read-at .ensures))
 
 loop-less : tie.Need-loop-less Inv-loop μ-loop
