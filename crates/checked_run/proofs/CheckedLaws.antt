@@ -1,0 +1,61 @@
+-- What demand 3 says of the run's definitions is what it says of the three answers and of the buffer.
+-- Assumes nothing.
+use Prim.Native.Nat.{ℕ}
+use mathlib.Core.List.{List}
+use mathlib.Core.Path.{_≡_, sym, ap, subst, _∙_}
+use lib.ListN.{length, take}
+use Rattle.schedule.specs.Fields.{Bytes}
+use Rattle.schedule.specs.Rule.{Refusal}
+use Rattle.schedule.specs.Model.{model, modelForm}
+use Rattle.schedule.specs.Choice.{choiceForm}
+use Rattle.schedule.specs.Answers.{accepted, refused, Written, plainVerdict, strictVerdict}
+use Rattle.schedule.specs.Answers.{runChecks, runAnswer, runBuffer}
+use Rattle.laws.proofs.FirstBreak.{hold-append}
+use Rattle.demands.specs.Strict.{PassesWith, planWritten, SingleStrictPlan}
+use Rattle.demands.proofs.Demand3.{demand-3}
+use Rattle.demands.proofs.Page.{checked, roomy}
+use Rattle.checked_run.specs.Checked.{CheckedRun, ran, sent-back, checkedOf, checkedRun, OnlyPlan, KeepsDemand3}
+
+-- what the call promises: its answer, the buffer, and demand 3 of both
+abbrev Promised : List ℕ → List ℕ → List ℕ → List ℕ → CheckedRun → Type 0
+Promised s q old new x = ((x ≡ checkedRun s q old) × (new ≡ runBuffer s q old)) × KeepsDemand3 s q old new x
+
+module _ (s q old new : List ℕ) (bytes : Bytes q) (left : new ≡ runBuffer s q old) where
+  module _ (w : Written) (e : runAnswer s q (length old) ≡ accepted w) where
+    -- demand 3 of a run that succeeds
+    single : SingleStrictPlan s q old
+    unfolding runChecks
+    single =
+        let both = hold-append (modelForm s) (choiceForm (model s) q) .0 (checked s q (length old) w e) in
+        demand-3 s q old bytes (both .0) (both .1) (roomy s q (length old) w e)
+
+    wrote : planWritten s q old w ≡ take (w .length) new
+    wrote = ap (take (w .length)) (sym left)
+
+    only-plan : OnlyPlan s q new w (plainVerdict s (take (w .length) new)) (strictVerdict s (take (w .length) new))
+    only-plan = record {
+      passes = subst (λ (r : List ℕ). PassesWith s q r (w .figures)) wrote (single .strict w e);
+      plain-accepts = ap (plainVerdict s) (sym wrote) ∙ single .plain w e;
+      strict-accepts = ap (strictVerdict s) (sym wrote) ∙ single .strict w e .strict;
+      only = λ r h. single .only w e r h ∙ wrote;
+    }
+
+    answered : ran w (plainVerdict s (take (w .length) new)) (strictVerdict s (take (w .length) new)) ≡ checkedRun s q old
+    unfolding checkedRun checkedOf
+    answered =
+        ap (λ (r : List ℕ). ran w (plainVerdict s r) (strictVerdict s r)) (sym wrote)
+        ∙ ap (checkedOf s q old) (sym e)
+
+    -- the run succeeded
+    pub run-passed : (x : CheckedRun)
+        → x ≡ ran w (plainVerdict s (take (w .length) new)) (strictVerdict s (take (w .length) new)) → Promised s q old new x
+    run-passed x told =
+        subst (Promised s q old new) (sym told) ((answered, left), only-plan)
+
+  -- the run refused
+  pub run-sent-back : (x : Refusal) → runAnswer s q (length old) ≡ refused x → Promised s q old new (sent-back x)
+  unfolding checkedRun checkedOf
+  run-sent-back x e = (
+    (ap (checkedOf s q old) (sym e), left),
+    λ formed tested fits r. demand-3 s q old bytes formed tested fits .none-passes x e r,
+  )
