@@ -104,7 +104,9 @@ pass-injective x y e = told-apart (λ _. Pass.Holds) Pass.Refused (λ x. noRow (
     says (Pass.Refused x) = inr (x, (refl, refl))
 
 pub choice-read-injective : (x y : ChoiceRead) → choiceReadNumbers x ≡ choiceReadNumbers y → x ≡ y
-choice-read-injective x y e = told-apart (λ _. ChoiceRead.Choice) ChoiceRead.Refused (λ x. noRow (choiceReadNumbers x)) says x y (ap noRow e)
+choice-read-injective x y e =
+    told-apart (λ _. ChoiceRead.Choice) ChoiceRead.Refused (λ x. noRow (choiceReadNumbers x)) says x y
+    (ap noRow e)
   where
     says : (x : ChoiceRead) → Says (λ _. ChoiceRead.Choice) ChoiceRead.Refused (λ x. noRow (choiceReadNumbers x)) x
     says ChoiceRead.Choice = inl (tt, (refl, refl))

@@ -52,8 +52,11 @@ enum-told c = search needs
 
 returns : tie.Need-returns
 returns c =
-    let x = c .before .before .before .before .before .before .before .before .before .before .before .before .before .before .before .before .before .args in
-    activities-stop (model (x .s .now)) (plan (x .r .now)) (x .strict) _ _ (c .enum-told .given .1) (c .before .before .activity-rules .ensures)
+    let c8 = c .before .before .before .before .before .before .before .before in
+    let c17 = c8 .before .before .before .before .before .before .before .before .before in
+    let x = c17 .args in
+    activities-stop (model (x .s .now)) (plan (x .r .now)) (x .strict) _ _ (c .enum-told .given .1)
+    (c .before .before .activity-rules .ensures)
 
 enum-told-2 : tie.Need-enum-told-2
 enum-told-2 c = search needs
@@ -78,7 +81,10 @@ froms-requires c κs =
     )
 
 tabulate-requires-3 : tie.Need-tabulate-requires-3
-tabulate-requires-3 c κs = (c .before .before .before .before .before .before .before .before .before .before .before .before .before .before .before .before .before .before .before .before .before .before .pre .0, c .before .before .before .before .before .before .before .before .before .before .before .before .before .before .before .before .before .before .before .before .before .before .pre .1 .activities .1)
+tabulate-requires-3 c κs =
+    let c11 = c .before .before .before .before .before .before .before .before .before .before .before in
+    let c22 = c11 .before .before .before .before .before .before .before .before .before .before .before in
+    (c22 .pre .0, c22 .pre .1 .activities .1)
 
 tick-rules-requires : tie.Need-tick-rules-requires
 tick-rules-requires c κs =
@@ -96,8 +102,12 @@ tick-rules-requires c κs =
 
 returns-2 : tie.Need-returns-2
 returns-2 c =
-    let x = c .before .before .before .before .before .before .before .before .before .before .before .before .before .before .before .before .before .before .before .before .before .before .before .before .before .before .before .args in
-    ticks-decide (model (x .s .now)) (plan (x .r .now)) (x .strict) _ (c .tick-rules .result) (c .before .before .before .before .before .before .before .before .before .before .enum-told2 .given .1) (c .before .before .before .before .before .before .before .before .before .before .before .before .activity-rules .ensures) (c .tick-rules .ensures)
+    let c10 = c .before .before .before .before .before .before .before .before .before .before in
+    let c12 = c10 .before .before in
+    let c27 = c12 .before .before .before .before .before .before .before .before .before .before .before .before .before .before .before in
+    let x = c27 .args in
+    ticks-decide (model (x .s .now)) (plan (x .r .now)) (x .strict) _ (c .tick-rules .result) (c10 .enum-told2 .given .1)
+    (c12 .activity-rules .ensures) (c .tick-rules .ensures)
 
 pub grid-rules-spec : {M : Type 1} → statement M
 grid-rules-spec =

@@ -41,11 +41,13 @@ enum-told c = search needs
 returns : tie.Need-returns
 unfolding twoRules
 returns c =
-    let x = c .before .before .before .before .before .before .before .before .args in
+    let c8 = c .before .before .before .before .before .before .before .before in
+    let x = c8 .args in
     let m = model (x .s .now) in
     let p = plan (x .r .now) in
     stops _ _ (tickRule (loadRule (x .strict)) m p) _ (c .enum-told .given .1)
-    (c .before .before .over-ticks .ensures ∙ ap (λ (rule : TickRule). break (tickRule rule m p)) (c .before .before .before .before .load-rule .ensures))
+    (c .before .before .over-ticks .ensures ∙ ap (λ (rule : TickRule). break (tickRule rule m p))
+    (c .before .before .before .before .load-rule .ensures))
 
 enum-told-2 : tie.Need-enum-told-2
 enum-told-2 c = search needs
@@ -73,11 +75,14 @@ over-ticks-requires-2 c κs =
 returns-2 : tie.Need-returns-2
 unfolding twoRules
 returns-2 c =
-    let x = c .before .before .before .before .before .before .before .before .before .before .before .args in
+    let c5 = c .before .before .before .before .before in
+    let c7 = c5 .before .before in
+    let c11 = c7 .before .before .before .before in
+    let x = c11 .args in
     let m = model (x .s .now) in
     let p = plan (x .r .now) in
     goes-on _ (tickRule (loadRule (x .strict)) m p) _ _ (c .before .before .before .enum-told2 .given .1)
-    (c .before .before .before .before .before .over-ticks .ensures ∙ ap (λ (rule : TickRule). break (tickRule rule m p)) (c .before .before .before .before .before .before .before .load-rule .ensures))
+    (c5 .over-ticks .ensures ∙ ap (λ (rule : TickRule). break (tickRule rule m p)) (c7 .load-rule .ensures))
     (last-rule (c .over-ticks2 .result) (tickRule (rankRule (x .strict)) m p)
     (c .over-ticks2 .ensures ∙ ap (λ (rule : TickRule). break (tickRule rule m p)) (c .before .before .rank-rule .ensures)))
 

@@ -67,13 +67,27 @@ at-requires-3 c κs = omega (arith, c .before .before .before .before .before .b
 
 span-holds-requires : tie.Need-span-holds-requires
 span-holds-requires c κs =
-    let x = c .before .before .before .before .before .before .before .before .args in
+    let c6 = c .before .before .before .before .before .before in
+    let c7 = c6 .before in
+    let c8 = c7 .before in
+    let x = c8 .args in
     let m = model (x .s .now) in
     let p = plan (x .r .now) in
-    let tables = c .before .before .before .before .before .before .before .before .pre .1 .0 in
-    let less = c .before .before .before .before .before .before .before .before .pre .1 .1 in (
-      omega (arith, c .before .before .before .before .start-of .ensures, start-lt (x .r .now) (λ i _. c .before .before .before .before .before .before .shared-slice-known2 .given i .fits) (x .a .0)),
-      omega (arith, c .before .at2 .ensures, tables .count-ticks (x .a .0) less, count-lt m p (x .a .0) (horizon-lt (x .s .now) (λ i _. c .before .before .before .before .before .before .before .shared-slice-known .given i .fits))),
+    let tables = c8 .pre .1 .0 in
+    let less = c8 .pre .1 .1 in (
+      omega (
+        arith,
+        c .before .before .before .before .start-of .ensures,
+        start-lt (x .r .now)
+            (λ i _. c6 .shared-slice-known2 .given i .fits) (x .a .0),
+      ),
+      omega (
+        arith,
+        c .before .at2 .ensures,
+        tables .count-ticks (x .a .0) less,
+        count-lt m p (x .a .0)
+            (horizon-lt (x .s .now) (λ i _. c7 .shared-slice-known .given i .fits)),
+      ),
     )
 
 flag-requires-4 : tie.Need-flag-requires-4
@@ -84,14 +98,18 @@ enum-told-5 c = search needs
 
 early-mask-requires : tie.Need-early-mask-requires
 unfolding sizesOf
-early-mask-requires c κs = omega (arith, ap (λ (y : Sizes). y .activities) (c .before .before .before .before .before .before .pre .0), c .before .before .before .before .before .before .pre .1 .0 .few)
+early-mask-requires c κs =
+    let c6 = c .before .before .before .before .before .before in
+    omega (arith, ap (λ (y : Sizes). y .activities) (c6 .pre .0), c6 .pre .1 .0 .few)
 
 enum-told-6 : tie.Need-enum-told-6
 enum-told-6 c = search needs
 
 early-mask-requires-2 : tie.Need-early-mask-requires-2
 unfolding sizesOf
-early-mask-requires-2 c κs = omega (arith, ap (λ (y : Sizes). y .activities) (c .before .before .before .before .before .before .before .pre .0), c .before .before .before .before .before .before .before .pre .1 .0 .few)
+early-mask-requires-2 c κs =
+    let c7 = c .before .before .before .before .before .before .before in
+    omega (arith, ap (λ (y : Sizes). y .activities) (c7 .pre .0), c7 .pre .1 .0 .few)
 
 enum-told-7 : tie.Need-enum-told-7
 enum-told-7 c = search needs
@@ -104,13 +122,27 @@ at-requires-5 c κs = omega (arith, c .before .before .before .before .before .b
 
 eligible-holds-requires : tie.Need-eligible-holds-requires
 eligible-holds-requires c κs =
-    let x = c .before .before .before .before .before .before .before .before .args in
+    let c6 = c .before .before .before .before .before .before in
+    let c7 = c6 .before in
+    let c8 = c7 .before in
+    let x = c8 .args in
     let m = model (x .s .now) in
     let p = plan (x .r .now) in
-    let tables = c .before .before .before .before .before .before .before .before .pre .1 .0 in
-    let less = c .before .before .before .before .before .before .before .before .pre .1 .1 in (
-      omega (arith, c .before .before .before .before .start-of .ensures, start-lt (x .r .now) (λ i _. c .before .before .before .before .before .before .shared-slice-known2 .given i .fits) (x .a .0)),
-      omega (arith, c .before .at4 .ensures, tables .count-ticks (x .a .0) less, count-lt m p (x .a .0) (horizon-lt (x .s .now) (λ i _. c .before .before .before .before .before .before .before .shared-slice-known .given i .fits))),
+    let tables = c8 .pre .1 .0 in
+    let less = c8 .pre .1 .1 in (
+      omega (
+        arith,
+        c .before .before .before .before .start-of .ensures,
+        start-lt (x .r .now)
+            (λ i _. c6 .shared-slice-known2 .given i .fits) (x .a .0),
+      ),
+      omega (
+        arith,
+        c .before .at4 .ensures,
+        tables .count-ticks (x .a .0) less,
+        count-lt m p (x .a .0)
+            (horizon-lt (x .s .now) (λ i _. c7 .shared-slice-known .given i .fits)),
+      ),
     )
 
 flag-requires-5 : tie.Need-flag-requires-5
@@ -119,10 +151,12 @@ flag-requires-5 c κs = search needs
 returns : tie.Need-returns
 unfolding rule21
 returns c =
-    let x = c .before .before .before .before .before .before .before .before .args in
+    let c8 = c .before .before .before .before .before .before .before .before in
+    let x = c8 .args in
     let m = model (x .s .now) in
     let p = plan (x .r .now) in
-    rw (c .before .before .enum-told .given .1) (flagged (rule21 m p) (x .a .0) _ _ refl (c .flag .ensures) (c .before .window-holds .ensures))
+    rw (c .before .before .enum-told .given .1)
+    (flagged (rule21 m p) (x .a .0) _ _ refl (c .flag .ensures) (c .before .window-holds .ensures))
 
 returns-2 : tie.Need-returns-2
 unfolding rule22
@@ -140,61 +174,75 @@ returns-2 c =
 returns-3 : tie.Need-returns-3
 unfolding rule23 deadlineRule
 returns-3 c =
-    let x = c .before .before .before .before .before .before .before .before .args in
+    let c8 = c .before .before .before .before .before .before .before .before in
+    let x = c8 .args in
     let m = model (x .s .now) in
     let p = plan (x .r .now) in
-    rw (c .before .before .enum-told3 .given .1) (flagged (rule23 m p) (x .a .0) _ _ refl (c .flag3 .ensures) (c .before .deadline-holds .ensures))
+    rw (c .before .before .enum-told3 .given .1)
+    (flagged (rule23 m p) (x .a .0) _ _ refl (c .flag3 .ensures) (c .before .deadline-holds .ensures))
 
 returns-4 : tie.Need-returns-4
 unfolding rule24
 returns-4 c =
-    let x = c .before .before .before .before .before .before .before .before .before .before .args in
+    let c6 = c .before .before .before .before .before .before in
+    let c10 = c6 .before .before .before .before in
+    let x = c10 .args in
     let m = model (x .s .now) in
     let p = plan (x .r .now) in
-    let tables = c .before .before .before .before .before .before .before .before .before .before .pre .1 .0 in
-    let less = c .before .before .before .before .before .before .before .before .before .before .pre .1 .1 in
+    let tables = c10 .pre .1 .0 in
+    let less = c10 .pre .1 .1 in
     rw (c .before .before .before .before .enum-told4 .given .1)
     (flagged (rule24 m p) (x .a .0) _ _ refl (c .flag4 .ensures)
-    (span-test m p (x .a .0) _ _ _ _ (c .before .span-holds .ensures) (c .before .before .before .before .before .before .start-of .ensures) (c .before .before .before .at2 .ensures ∙ tables .count-ticks (x .a .0) less)
+    (span-test m p (x .a .0) _ _ _ _ (c .before .span-holds .ensures) (c6 .start-of .ensures)
+    (c .before .before .before .at2 .ensures ∙ tables .count-ticks (x .a .0) less)
     (c .before .before .at3 .ensures ∙ tables .end-ticks (x .a .0) less)))
 
 returns-5 : tie.Need-returns-5
 unfolding sizesOf activityRowOf
 returns-5 c =
-    let x = c .before .before .before .before .before .before .before .args in
+    let c7 = c .before .before .before .before .before .before .before in
+    let x = c7 .args in
     let m = model (x .s .now) in
     let p = plan (x .r .now) in
-    let tables = c .before .before .before .before .before .before .before .pre .1 .0 in
-    let less = c .before .before .before .before .before .before .before .pre .1 .1 in
+    let tables = c7 .pre .1 .0 in
+    let less = c7 .pre .1 .1 in
     rw (c .before .enum-told5 .given .1)
     (c .early-mask .ensures
-    ∙ temporal-mask m p (x .ends .now) (x .delays .now) (x .a .0) _ _ _ (ap (λ (y : ActivityRow). y .«temporal_mask») (c .before .before .before .before .activity-row .ensures))
-    (c .before .before .before .start-of .ensures) (ap (λ (y : Sizes). y .activities) (c .before .before .before .before .before .before .before .pre .0)) (tables .end-ticks) (tables .delay-ticks))
+    ∙ temporal-mask m p (x .ends .now) (x .delays .now) (x .a .0) _ _ _
+    (ap (λ (y : ActivityRow). y .«temporal_mask») (c .before .before .before .before .activity-row .ensures))
+    (c .before .before .before .start-of .ensures) (ap (λ (y : Sizes). y .activities) (c7 .pre .0)) (tables .end-ticks)
+    (tables .delay-ticks))
 
 returns-6 : tie.Need-returns-6
 unfolding sizesOf activityRowOf
 returns-6 c =
-    let x = c .before .before .before .before .before .before .before .before .args in
+    let c5 = c .before .before .before .before .before in
+    let c8 = c5 .before .before .before in
+    let x = c8 .args in
     let m = model (x .s .now) in
     let p = plan (x .r .now) in
-    let tables = c .before .before .before .before .before .before .before .before .pre .1 .0 in
-    let less = c .before .before .before .before .before .before .before .before .pre .1 .1 in
+    let tables = c8 .pre .1 .0 in
+    let less = c8 .pre .1 .1 in
     rw (c .before .before .enum-told6 .given .1)
     (c .early-mask2 .ensures
-    ∙ data-mask m p (x .ends .now) _ (x .a .0) _ _ _ (ap (λ (y : ActivityRow). y .«data_mask») (c .before .before .before .before .before .activity-row .ensures))
-    (c .before .before .before .before .start-of .ensures) (ap (λ (y : Sizes). y .activities) (c .before .before .before .before .before .before .before .before .pre .0)) (tables .end-ticks) (zeros-at 32))
+    ∙ data-mask m p (x .ends .now) _ (x .a .0) _ _ _ (ap (λ (y : ActivityRow). y .«data_mask») (c5 .activity-row .ensures))
+    (c .before .before .before .before .start-of .ensures) (ap (λ (y : Sizes). y .activities) (c8 .pre .0)) (tables .end-ticks)
+    (zeros-at 32))
 
 returns-7 : tie.Need-returns-7
 unfolding rule27
 returns-7 c =
-    let x = c .before .before .before .before .before .before .before .before .before .before .args in
+    let c6 = c .before .before .before .before .before .before in
+    let c10 = c6 .before .before .before .before in
+    let x = c10 .args in
     let m = model (x .s .now) in
     let p = plan (x .r .now) in
-    let tables = c .before .before .before .before .before .before .before .before .before .before .pre .1 .0 in
-    let less = c .before .before .before .before .before .before .before .before .before .before .pre .1 .1 in
+    let tables = c10 .pre .1 .0 in
+    let less = c10 .pre .1 .1 in
     rw (c .before .before .before .before .enum-told7 .given .1)
     (flagged (rule27 m p) (x .a .0) _ _ refl (c .flag5 .ensures)
-    (eligible-test m p (x .a .0) _ _ _ _ (c .before .eligible-holds .ensures) (c .before .before .before .before .before .before .start-of .ensures) (c .before .before .before .at4 .ensures ∙ tables .count-ticks (x .a .0) less)
+    (eligible-test m p (x .a .0) _ _ _ _ (c .before .eligible-holds .ensures) (c6 .start-of .ensures)
+    (c .before .before .before .at4 .ensures ∙ tables .count-ticks (x .a .0) less)
     (c .before .before .at5 .ensures ∙ tables .finish-ticks (x .a .0) less)))
 
 pub breaking-spec : {M : Type 1} → statement M

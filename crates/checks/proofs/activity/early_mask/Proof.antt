@@ -1,4 +1,5 @@
--- `checks::activity::early_mask` meets its contract: the mask holds the predecessors passed that the start comes too early after. Assumes nothing.
+-- `checks::activity::early_mask` meets its contract: the mask holds those passed that the start comes too early after.
+-- Assumes nothing.
 use native.Mathlib.Omega.{arith}
 use Prim.Native.Nat.{ℕ, _+_, _≤_, _-_}
 use mathlib.Core.Bool.{Bool, not}

@@ -47,16 +47,20 @@ refused-requires c κs = search needs
 
 returns : tie.Need-returns Inv-loop μ-loop
 returns c =
-    let x = c .before .before .before .before .before .before .before .before .before .args in
-    let l = c .before .before .before .before .before .before .loop in
+    let c5 = c .before .before .before .before .before in
+    let c6 = c5 .before in
+    let c9 = c6 .before .before .before in
+    let x = c9 .args in
+    let l = c6 .loop in
     let m = model (x .s .now) in
     let p = plan (x .r .now) in
     c .refused .ensures
     ∙ ap (λ (k : ℕ). some (record { number = k; A = l .number; B = c .before .before .before .lowest .result }))
     (ap ruleNumber (c .before .name .ensures) ∙ activity-number (x .rule) m p)
     ∙ sym (clear-stop (activityRule (x .rule) m p) (l .number) _ (l .inv .3)
-    (omega (arith, activity-rows (x .rule) m p, l .inv .1, c .before .before .before .before .before .loop-test .taken))
-    (row-stops (activityRule (x .rule) m p) (l .number) _ _ (activity-columns (x .rule) m p (l .inv .2 .few)) (c .before .before .before .before .breaking .ensures)
+    (omega (arith, activity-rows (x .rule) m p, l .inv .1, c5 .loop-test .taken))
+    (row-stops (activityRule (x .rule) m p) (l .number) _ _ (activity-columns (x .rule) m p (l .inv .2 .few))
+    (c .before .before .before .before .breaking .ensures)
     (c .before .before .before .lowest .ensures) (c .before .before .if1 .taken)))
 
 add-number : tie.Need-add-number Inv-loop μ-loop
@@ -67,7 +71,8 @@ loop-less c = omega arith
 
 loop-again : tie.Need-loop-again Inv-loop μ-loop
 loop-again c =
-    let x = c .before .before .before .before .before .before .before .args in
+    let c7 = c .before .before .before .before .before .before .before in
+    let x = c7 .args in
     let l = c .before .before .before .before .loop in
     let m = model (x .s .now) in
     let p = plan (x .r .now) in (
@@ -75,7 +80,8 @@ loop-again c =
       l .inv .1,
       l .inv .2,
       clear-again (activityRule (x .rule) m p) (l .number) (l .inv .3)
-          (row-goes-on (activityRule (x .rule) m p) (l .number) _ _ (activity-columns (x .rule) m p (l .inv .2 .few)) (c .before .before .breaking .ensures)
+          (row-goes-on (activityRule (x .rule) m p) (l .number) _ _ (activity-columns (x .rule) m p (l .inv .2 .few))
+          (c .before .before .breaking .ensures)
           (c .before .lowest .ensures) (c .if1 .left)),
     )
 

@@ -49,12 +49,21 @@ at-requires-2 c κs = omega arith
 
 let-go-requires : tie.Need-let-go-requires Inv-loop μ-loop
 let-go-requires c κs =
-    let l = c .before .before .before .before .before .loop in
-    let x = c .before .before .before .before .before .before .before .before .args in
-    let pre = c .before .before .before .before .before .before .before .before .pre in
+    let c5 = c .before .before .before .before .before in
+    let c7 = c5 .before .before in
+    let c8 = c7 .before in
+    let l = c5 .loop in
+    let x = c8 .args in
+    let pre = c8 .pre in
     let less = c .before .before .before .before .loop-test .taken in (
       omega (arith, c .before .at .ensures, pre .1 .1 (l .number) less),
-      omega (arith, c .at2 .ensures, pre .1 .0 (l .number) less, delay-lt (x .s .now) (λ i _. c .before .before .before .before .before .before .before .shared-slice-known .given i .fits) (l .number)),
+      omega (
+        arith,
+        c .at2 .ensures,
+        pre .1 .0 (l .number) less,
+        delay-lt (x .s .now) (λ i _. c7 .shared-slice-known .given i .fits)
+            (l .number),
+      ),
     )
 
 larger-requires : tie.Need-larger-requires Inv-loop μ-loop

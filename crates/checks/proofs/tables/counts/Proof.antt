@@ -43,8 +43,12 @@ word-requires c κs = search needs
 
 tally-requires : tie.Need-tally-requires Inv-loop μ-loop
 tally-requires c κs =
-    let l = c .before .before .before .loop in
-    (l .inv .3, few-counted (l .table) (l .t) (λ t i. active (plan (c .before .before .before .before .before .before .args .r .now)) t i) (omega (arith, l .inv .0, l .inv .2)) (l .inv .3) (l .inv .4))
+    let c6 = c .before .before .before .before .before .before in
+    let l = c .before .before .before .loop in (
+      l .inv .3,
+      few-counted (l .table) (l .t) (λ t i. active (plan (c6 .args .r .now)) t i) (omega (arith, l .inv .0, l .inv .2))
+          (l .inv .3) (l .inv .4),
+    )
 
 add-t : tie.Need-add-t Inv-loop μ-loop
 add-t c = search needs

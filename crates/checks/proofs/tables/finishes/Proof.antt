@@ -36,9 +36,12 @@ loop-holds c = (
 
 earliest-requires : tie.Need-earliest-requires Inv-loop μ-loop
 earliest-requires c κs =
+    let c5 = c .before .before .before .before .before in
     let l = c .before .before .loop in
-    let pre = c .before .before .before .before .before .pre .1 in
-    (omega (arith, l .inv .1, l .inv .5), (λ b h. pre .1 .1 .1 b (omega (arith, h, l .inv .1)), λ b _. omega (arith, l .inv .3 b, l .inv .1, l .inv .5, l .inv .0)))
+    let pre = c5 .pre .1 in (
+      omega (arith, l .inv .1, l .inv .5),
+      (λ b h. pre .1 .1 .1 b (omega (arith, h, l .inv .1)), λ b _. omega (arith, l .inv .3 b, l .inv .1, l .inv .5, l .inv .0)),
+    )
 
 at-requires : tie.Need-at-requires Inv-loop μ-loop
 at-requires c κs = omega arith

@@ -46,7 +46,8 @@ loop-again c =
     let x = c .before .before .before .args in (
       omega arith,
       simp length-set (l .inv .1),
-      table-next (l .masks) (l .number) (c .rank-mask .result) (λ i. wordOf (x .n) (outranksFrom (x .priorities .now) (x .level) i)) (omega (arith, l .inv .1)) (c .rank-mask .ensures) (l .inv .2),
+      table-next (l .masks) (l .number) (c .rank-mask .result) (λ i. wordOf (x .n) (outranksFrom (x .priorities .now) (x .level) i))
+          (omega (arith, l .inv .1)) (c .rank-mask .ensures) (l .inv .2),
       λ i h. getD-set-other (l .masks) (l .number) i (c .rank-mask .result) 0 (omega arith) ∙ l .inv .3 i (omega arith),
     )
 

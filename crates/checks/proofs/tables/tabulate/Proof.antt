@@ -23,7 +23,14 @@ abbrev μ-loop : tie.MeasureT-loop
 
 loop-holds : tie.Need-loop-holds Inv-loop μ-loop
 unfolding sizesOf
-loop-holds c = (omega arith, ap (λ (y : Sizes). y .activities) (c .before .before .pre .0), c .before .before .pre .1, refl, λ i l. absurd (omega arith))
+loop-holds c = (
+  omega arith,
+  ap (λ (y : Sizes). y .activities)
+      (c .before .before .pre .0),
+  c .before .before .pre .1,
+  refl,
+  λ i l. absurd (omega arith),
+)
 
 value-requires : tie.Need-value-requires Inv-loop μ-loop
 value-requires c κs = search needs
@@ -45,13 +52,15 @@ loop-less c = omega arith
 
 loop-again : tie.Need-loop-again Inv-loop μ-loop
 loop-again c =
+    let c5 = c .before .before .before .before .before in
     let l = c .before .before .loop in
-    let x = c .before .before .before .before .before .args in (
+    let x = c5 .args in (
       omega arith,
       l .inv .1,
       l .inv .2,
       simp length-set (l .inv .3),
-      table-next (l .table) (l .number) (c .value .result) (columnOf (x .column) (model (x .s .now)) (plan (x .r .now))) (omega (arith, l .inv .2, l .inv .3)) (c .value .ensures) (l .inv .4),
+      table-next (l .table) (l .number) (c .value .result) (columnOf (x .column) (model (x .s .now)) (plan (x .r .now)))
+          (omega (arith, l .inv .2, l .inv .3)) (c .value .ensures) (l .inv .4),
     )
 
 returns : tie.Need-returns Inv-loop μ-loop

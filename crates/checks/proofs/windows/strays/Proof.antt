@@ -25,10 +25,12 @@ outside-requires c κs =
 returns : tie.Need-returns
 unfolding sizesOf
 returns c =
-    let x = c .before .before .before .before .before .before .args in
-    let sizes = c .before .before .before .before .before .before .pre .0 in
-    strays-read (model (x .s .now)) (plan (x .r .now)) (c .before .before .before .tabulate .result) (x .ends .now) _ _ _ (ap (λ (y : Sizes). y .horizon) sizes) (ap (λ (y : Sizes). y .activities) sizes)
-    (c .before .before .before .tabulate .ensures) (c .before .before .before .before .before .before .pre .1 .1) (c .outside .ensures)
+    let c6 = c .before .before .before .before .before .before in
+    let x = c6 .args in
+    let sizes = c6 .pre .0 in
+    strays-read (model (x .s .now)) (plan (x .r .now)) (c .before .before .before .tabulate .result) (x .ends .now) _ _ _
+    (ap (λ (y : Sizes). y .horizon) sizes) (ap (λ (y : Sizes). y .activities) sizes)
+    (c .before .before .before .tabulate .ensures) (c6 .pre .1 .1) (c .outside .ensures)
 
 pub strays-spec : {M : Type 1} → statement M
 strays-spec =

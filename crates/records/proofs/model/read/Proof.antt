@@ -42,7 +42,8 @@ returns-2 c =
     let s = c5 .before .before .before .before .args .s .now in
     rw (
       model-form,
-      unbroken (firstBreak (modelHead s)) (sizesOf (model s)) _ _ (c5 .before .before .head .ensures) (ap modelReadNumbers (c5 .first .given .1)),
+      unbroken (firstBreak (modelHead s)) (sizesOf (model s)) _ _ (c5 .before .before .head .ensures)
+          (ap modelReadNumbers (c5 .first .given .1)),
       sym (c .before .before .before .read-threads .ensures) ∙ ap passNumbers (c .before .threads .given .1),
     )
 
@@ -67,7 +68,8 @@ returns-3 c =
     let s = c8 .before .before .before .before .args .s .now in
     rw (
       model-form,
-      unbroken (firstBreak (modelHead s)) (sizesOf (model s)) _ _ (c8 .before .before .head .ensures) (ap modelReadNumbers (c8 .first .given .1)),
+      unbroken (firstBreak (modelHead s)) (sizesOf (model s)) _ _ (c8 .before .before .head .ensures)
+          (ap modelReadNumbers (c8 .first .given .1)),
       sym (c4 .before .before .read-threads .ensures) ∙ ap passNumbers (c4 .enum-told2 .given .1),
       sym (c .before .before .before .read-activities .ensures) ∙ ap passNumbers (c .before .activities .given .1),
     )
@@ -94,7 +96,8 @@ returns-4 c =
     let s = c11 .before .before .before .before .args .s .now in
     rw (
       model-form,
-      unbroken (firstBreak (modelHead s)) (sizesOf (model s)) _ _ (c11 .before .before .head .ensures) (ap modelReadNumbers (c11 .first .given .1)),
+      unbroken (firstBreak (modelHead s)) (sizesOf (model s)) _ _ (c11 .before .before .head .ensures)
+          (ap modelReadNumbers (c11 .first .given .1)),
       sym (c7 .before .before .read-threads .ensures) ∙ ap passNumbers (c7 .enum-told2 .given .1),
       sym (c4 .before .before .read-activities .ensures) ∙ ap passNumbers (c4 .enum-told3 .given .1),
       sym (c .before .before .before .read-all-masks .ensures) ∙ ap passNumbers (c .before .masks .given .1),

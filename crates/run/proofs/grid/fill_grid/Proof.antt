@@ -104,9 +104,14 @@ loop-holds c =
           (rw (ap (λ (r : Sizes). r .activities) (c11 .counts .ensures)) (c15 .pre .0 .few))
           (omega (arith, c9 .struct-known2 .given))
           (rw (ap (λ (r : Sizes). r .horizon) (c11 .counts .ensures)) (c15 .pre .1))
-          (c8 .table .ensures) (c7 .table2 .ensures) (c6 .table3 .ensures) (c .before .before .before .before .before .table4 .ensures) (c .before .before .before .before .table5 .ensures)
+          (c8 .table .ensures) (c7 .table2 .ensures) (c6 .table3 .ensures)
+          (c .before .before .before .before .before .table4 .ensures) (c .before .before .before .before .table5 .ensures)
           (c .before .before .before-masks .ensures) (c .before .table6 .ensures)
-          (record { sized = refl; filled = λ a l. getD-replicate 32 a 0 0 (omega (arith, ap (λ (r : Sizes). r .activities) (c11 .counts .ensures), c15 .pre .0 .few)) }),
+          (record {
+            sized = refl;
+            filled = λ a l. getD-replicate 32 a 0 0
+                (omega (arith, ap (λ (r : Sizes). r .activities) (c11 .counts .ensures), c15 .pre .0 .few));
+          }),
       lasts-unknown _ _ _ _ _ _ _ _ _ _ _ (c .unknown .ensures),
     )
 
@@ -160,13 +165,16 @@ loop-again c =
     let c7 = c .before .before .before .before .before .before .before in
     let c15 = c7 .before .before .before .before .before .before .before .before in
     let c16 = c15 .before in
-    let c32 = c16 .before .before .before .before .before .before .before .before .before .before .before .before .before .before .before .before in
+    let c24 = c16 .before .before .before .before .before .before .before .before in
+    let c32 = c24 .before .before .before .before .before .before .before .before in
     let l = c16 .loop in
     let few = l .inv .0 .tabled .few in
     let step = c .before .before .before .before .step .ensures in (
-      running-next _ _ _ _ _ _ _ _ _ _ _ (l .grid) (l .owed) (l .ends) (l .t) (l .inv .0) (c7 .at .result .word) _ _ _ (c32 .pre .0 .masked) (c15 .loop-test .taken)
+      running-next _ _ _ _ _ _ _ _ _ _ _ (l .grid) (l .owed) (l .ends) (l .t) (l .inv .0) (c7 .at .result .word) _ _ _
+          (c32 .pre .0 .masked) (c15 .loop-test .taken)
           (c7 .at .ensures .0) (stepped-fewer _ _ _ _ _ _ _ (omega (arith, l .inv .0 .n-is, few)) step) (c .before .before .put32 .ensures),
-      lasts-next _ _ _ _ _ _ _ (l .owed) (l .ends) _ _ (c7 .at .result) (l .t) (omega (arith, l .inv .0 .n-is, few)) (c7 .at .ensures .1) step,
+      lasts-next _ _ _ _ _ _ _ (l .owed) (l .ends) _ _ (c7 .at .result) (l .t) (omega (arith, l .inv .0 .n-is, few))
+          (c7 .at .ensures .1) step,
     )
 
 same-length : tie.Need-same-length Inv-loop μ-loop

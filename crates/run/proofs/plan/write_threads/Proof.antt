@@ -53,7 +53,8 @@ loop-again c =
     let row = c .before .before .before .before .timing-at .ensures in (
       omega arith,
       c .before .before .write-pair .kept .0 ∙ l .inv .1,
-      pairs-next _ (l .j) _ _ _ _ _ (l .out) _ (omega arith) (ap (λ (r : Timing). r .release) row) (ap (λ (r : Timing). r .period) row) (l .inv .2) (c .before .before .write-pair .ensures),
+      pairs-next _ (l .j) _ _ _ _ _ (l .out) _ (omega arith) (ap (λ (r : Timing). r .release) row)
+          (ap (λ (r : Timing). r .period) row) (l .inv .2) (c .before .before .write-pair .ensures),
     )
 
 same-length : tie.Need-same-length Inv-loop μ-loop

@@ -39,7 +39,11 @@ loop-less : tie.Need-loop-less Inv-loop μ-loop
 loop-less c = omega arith
 
 loop-again : tie.Need-loop-again Inv-loop μ-loop
-loop-again c = (omega arith, filled-next _ (c .before .before .loop .number) _ _ (omega arith) (c .before .before .loop .inv .1) (c .entry .ensures))
+loop-again c = (
+  omega arith,
+  filled-next _ (c .before .before .loop .number) _ _ (omega arith) (c .before .before .loop .inv .1)
+      (c .entry .ensures),
+)
 
 returns : tie.Need-returns Inv-loop μ-loop
 returns c =
