@@ -90,8 +90,9 @@ pub fn activity_row(s: &[u8], a: Activity) -> ActivityRow
     let number = a.0;
     let threads = fields::byte(s, 6);
     let at = 10 + 10 * (threads as usize) + 15 * (number as usize);
+    let owner = fields::byte(s, at);
     ActivityRow {
-        thread: Thread(fields::byte(s, at)),
+        thread: Thread(owner),
         least_duration: fields::be16(s, at + 1),
         most_duration: fields::be16(s, at + 3),
         delay: fields::be16(s, at + 5),
