@@ -1,7 +1,9 @@
 /* The three calls of the grid checker.
  *
  * Every record and the buffer is passed as a pointer and the number of bytes. No pointer may be null, even where the
- * number is 0. The bytes of `out` overlap neither the model nor the choice. Only grid_run writes, and only into `out`.
+ * number is 0, and none has to be aligned. The two records may overlap; the bytes of `out` overlap neither of them. Only
+ * grid_run writes, and only into `out`; with 16,553 bytes `out` is never too short. The calls keep nothing, so that several
+ * threads may make them at once, each with its own `out`.
  */
 #ifndef GRID_H
 #define GRID_H
