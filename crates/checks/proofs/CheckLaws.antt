@@ -1,4 +1,4 @@
--- The rules of a whole check: those of the two records and then those of the plan; the first that is broken counts.
+-- A whole check: the two records' rules and then those of the plan, and the answer by the first that is broken.
 -- Assumes nothing.
 use mathlib.Core.Bool.{Bool, true, false}
 use mathlib.Core.List.{List, _++_}
@@ -9,7 +9,7 @@ use Rattle.schedule.specs.Rule
 use Rattle.schedule.specs.Rule.{Rule, firstBreak, AllHold}
 use Rattle.schedule.specs.Model.{model, modelForm}
 use Rattle.schedule.specs.Plan.{plan, planForm}
-use Rattle.schedule.specs.Answers.{accepted, refused, answer, plainChecks, strictChecks}
+use Rattle.schedule.specs.Answers.{accepted, refused, answer, figures, plainChecks, strictChecks}
 use Rattle.schedule.specs.Numbers.{refusalNumbers}
 use Rattle.schedule.specs.declared.Refusal.{Refusal}
 use Rattle.laws.proofs.FirstBreak.{none-iff, append-none, append-some}
@@ -17,7 +17,8 @@ use Rattle.laws.proofs.Sound.{modelForm-sound}
 use Rattle.records.specs.declared.model.Sizes.{Sizes}
 use Rattle.records.specs.declared.model.ModelRead.{ModelRead}
 use Rattle.records.specs.declared.plan.PlanRead.{PlanRead}
-use Rattle.records.specs.Reads.{refusalOf, modelReadNumbers, planReadNumbers}
+use Rattle.records.specs.declared.Pass.{Pass}
+use Rattle.records.specs.Reads.{passNumbers, modelReadNumbers, planReadNumbers}
 use Rattle.records.specs.Rows.{sizesOf}
 use Rattle.checks.specs.Rules.{gridRules, checksOf}
 
@@ -39,29 +40,22 @@ unfolding answer
 unbroken none pass f e = refl
 unbroken (some y) pass f e = cc
 
-carried : {F : Type 0} (o : Option Rule.Refusal) (pass f : F) → answer o pass ≡ accepted f → f ≡ pass
-unfolding answer
-carried none pass f e = cc
-carried (some y) pass f e = cc
-
-module _ (strict : Bool) (s r : List ℕ) (read : ModelRead)
-    (e : modelReadNumbers read ≡ answer (firstBreak (modelForm s)) (sizesOf (model s))) where
+module _ (strict : Bool) (s r : List ℕ) where
   -- the model is refused
-  pub model-stops : (x : Refusal) → read ≡ ModelRead.Refused x
-      → refusalOf (modelReadNumbers read) ≡ firstBreak (checksOf strict s r)
-  model-stops x told =
+  pub model-stops : (read : ModelRead) (x : Refusal) → read ≡ ModelRead.Refused x
+      → modelReadNumbers read ≡ answer (firstBreak (modelForm s)) (sizesOf (model s))
+      → refused (refusalNumbers x) ≡ answer (firstBreak (checksOf strict s r)) (figures (model s) (plan r))
+  unfolding answer
+  model-stops read x told e =
       let first = broken (firstBreak (modelForm s)) (sizesOf (model s)) (refusalNumbers x) (sym e ∙ ap modelReadNumbers told) in
-      ap (λ (y : ModelRead). refusalOf (modelReadNumbers y)) told
-      ∙ sym (append-some (modelForm s) (planForm (model s) r ++ gridRules strict (model s) (plan r)) (refusalNumbers x) first)
-      ∙ ap firstBreak (parts strict s r)
+      ap (λ (o : Option Rule.Refusal). answer o (figures (model s) (plan r)))
+      (sym (append-some (modelForm s) (planForm (model s) r ++ gridRules strict (model s) (plan r)) (refusalNumbers x) first)
+      ∙ ap firstBreak (parts strict s r))
 
-  module _ (sizes : Sizes) (told : read ≡ ModelRead.Model sizes) where
+  module _ (read : ModelRead) (sizes : Sizes) (told : read ≡ ModelRead.Model sizes)
+      (e : modelReadNumbers read ≡ answer (firstBreak (modelForm s)) (sizesOf (model s))) where
     formed : firstBreak (modelForm s) ≡ none
     formed = unbroken (firstBreak (modelForm s)) (sizesOf (model s)) sizes (sym e ∙ ap modelReadNumbers told)
-
-    -- what it carries
-    pub model-sizes : sizes ≡ sizesOf (model s)
-    model-sizes = carried (firstBreak (modelForm s)) (sizesOf (model s)) sizes (sym e ∙ ap modelReadNumbers told)
 
     pub model-formed : AllHold (modelForm s)
     model-formed = none-iff (modelForm s) (modelForm-sound s) .0 formed
@@ -71,13 +65,18 @@ module _ (strict : Bool) (s r : List ℕ) (read : ModelRead)
 
     -- the plan is refused
     pub plan-stops : (form : PlanRead) (x : Refusal) → form ≡ PlanRead.Refused x
-        → planReadNumbers form ≡ firstBreak (planForm (model s) r) → planReadNumbers form ≡ firstBreak (checksOf strict s r)
+        → planReadNumbers form ≡ firstBreak (planForm (model s) r)
+        → refused (refusalNumbers x) ≡ answer (firstBreak (checksOf strict s r)) (figures (model s) (plan r))
+    unfolding answer
     plan-stops form x held f =
-        ap planReadNumbers held
-        ∙ sym (append-some (planForm (model s) r) _ (refusalNumbers x) (sym f ∙ ap planReadNumbers held))
-        ∙ past-model
+        ap (λ (o : Option Rule.Refusal). answer o (figures (model s) (plan r)))
+        (sym (append-some (planForm (model s) r) _ (refusalNumbers x) (sym f ∙ ap planReadNumbers held)) ∙ past-model)
 
     -- the rules of the plan decide
-    pub rules-decide : (form : PlanRead) → form ≡ PlanRead.Plan → planReadNumbers form ≡ firstBreak (planForm (model s) r)
-        → firstBreak (gridRules strict (model s) (plan r)) ≡ firstBreak (checksOf strict s r)
-    rules-decide form held f = sym (append-none (planForm (model s) r) _ (sym f ∙ ap planReadNumbers held)) ∙ past-model
+    pub rules-answer : (form : PlanRead) → form ≡ PlanRead.Plan → planReadNumbers form ≡ firstBreak (planForm (model s) r)
+        → (pass : Pass) → passNumbers pass ≡ firstBreak (gridRules strict (model s) (plan r))
+        → answer (passNumbers pass) (figures (model s) (plan r))
+        ≡ answer (firstBreak (checksOf strict s r)) (figures (model s) (plan r))
+    rules-answer form held f pass g =
+        ap (λ (o : Option Rule.Refusal). answer o (figures (model s) (plan r)))
+        (g ∙ sym (append-none (planForm (model s) r) _ (sym f ∙ ap planReadNumbers held)) ∙ past-model)

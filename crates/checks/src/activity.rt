@@ -6,7 +6,6 @@ use crate::tables::start_of;
 use crate::tables::thread_of;
 use records::Pass;
 use records::model::Activity;
-use records::model::Sizes;
 use schedule::RuleRefusal;
 use ticks::on_time;
 use ticks::passed;
@@ -21,7 +20,6 @@ ghost use Rattle.schedule.specs.Plan.{plan};
 ghost use Rattle.schedule.specs.Checks.{window};
 ghost use Rattle.laws.proofs.RowLaws.{brokenMask};
 ghost use Rattle.records.specs.Reads.{passNumbers};
-ghost use Rattle.records.specs.Rows.{sizesOf};
 ghost use Rattle.checks.specs.Rules.{activityName, activityRule, ruleAt, earlyFrom, noneOutside, Counted};
 
 // The rules that are tried at activities.
@@ -43,8 +41,7 @@ pub(crate) enum ActivityRule {
 }
 
 // 21 at activity a, where a word says which activities are active outside their window.
-fn window_holds(s: &[u8], r: &[u8], sizes: Sizes, a: Activity, outside: u32) -> bool
-    requires { ⌜ sizes ≡ sizesOf (model (now s)) ⌝ }
+fn window_holds(s: &[u8], r: &[u8], a: Activity, outside: u32) -> bool
     requires { ⌜ bit outside (a .0) ≡ not (noneOutside (model (now s)) (plan (now r)) (a .0)) ⌝ }
     ensures { λ x. ⌜ x ≡ window (model (now (s .entry))) (plan (now (r .entry))) (a .0) ⌝ }
 {
@@ -52,6 +49,7 @@ fn window_holds(s: &[u8], r: &[u8], sizes: Sizes, a: Activity, outside: u32) -> 
     let row = records::plan::activity_row(r, a);
     let start = row.start;
     let end = row.end;
+    let sizes = records::model::counts(s);
     let horizon = sizes.horizon;
     if end <= start {
         return false;
@@ -152,7 +150,6 @@ fn breaking(
     rule: ActivityRule,
     s: &[u8],
     r: &[u8],
-    sizes: Sizes,
     outside: u32,
     counts: &[u32; 32],
     finishes: &[u32; 32],
@@ -160,16 +157,16 @@ fn breaking(
     delays: &[u32; 32],
     a: Activity,
 ) -> u32
-    requires { ⌜ sizes ≡ sizesOf (model (now s)) ⌝ }
     requires { ⌜ Counted (model (now s)) (plan (now r)) outside (now counts) (now finishes) (now ends) (now delays) ⌝ }
     requires { ⌜ a .0 < model (now s) .activities ⌝ }
     ensures { λ x. ⌜ x ≡ brokenMask (activityRule rule (model (now (s .entry))) (plan (now (r .entry)))) (a .0) ⌝ }
 {
     let row = records::model::activity_row(s, a);
+    let sizes = records::model::counts(s);
     let n = sizes.activities;
     let start = start_of(r, a);
     match rule {
-        ActivityRule::Window => flag(window_holds(s, r, sizes, a, outside)),
+        ActivityRule::Window => flag(window_holds(s, r, a, outside)),
         ActivityRule::Count => flag(count_holds(s, a, at(counts, a))),
         ActivityRule::Deadline => flag(deadline_holds(s, r, a)),
         ActivityRule::Span => flag(span_holds(start, at(counts, a), at(ends, a))),
@@ -214,33 +211,21 @@ pub(crate) fn over_activities(
     rule: ActivityRule,
     s: &[u8],
     r: &[u8],
-    sizes: Sizes,
     outside: u32,
     counts: &[u32; 32],
     finishes: &[u32; 32],
     ends: &[u32; 32],
     delays: &[u32; 32],
 ) -> Pass
-    requires { ⌜ sizes ≡ sizesOf (model (now s)) ⌝ }
     requires { ⌜ Counted (model (now s)) (plan (now r)) outside (now counts) (now finishes) (now ends) (now delays) ⌝ }
     ensures { λ x. ⌜ passNumbers x ≡ break (activityRule rule (model (now (s .entry))) (plan (now (r .entry)))) ⌝ }
 {
+    let sizes = records::model::counts(s);
     let n = sizes.activities;
     let mut number: u8 = 0;
     while number < n {
         let a = Activity(number);
-        let b = bits::lowest(breaking(
-            rule,
-            s,
-            r,
-            sizes,
-            outside,
-            counts,
-            finishes,
-            ends,
-            delays,
-            a,
-        ));
+        let b = bits::lowest(breaking(rule, s, r, outside, counts, finishes, ends, delays, a));
         if b < 32 {
             return refused(name(rule), number as u32, b);
         }

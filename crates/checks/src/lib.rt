@@ -10,7 +10,6 @@ use activity::rule_at;
 use figures::figures_of;
 use records::Pass;
 use records::model::ModelRead;
-use records::model::Sizes;
 use records::plan::PlanRead;
 use schedule::Place;
 use schedule::Refusal;
@@ -31,7 +30,6 @@ ghost use Rattle.laws.proofs.Formed.{Formed};
 ghost use Rattle.checks.specs.Tables.{Timed};
 ghost use Rattle.checks.specs.Rules.{Counted, activityRules, twoRules, tickRules, gridRules, checksOf};
 ghost use Rattle.records.specs.Reads.{passNumbers};
-ghost use Rattle.records.specs.Rows.{sizesOf};
 
 // A rule broken at a place.
 fn refused(why: RuleRefusal, a: u32, b: u32) -> Pass
@@ -44,21 +42,19 @@ fn refused(why: RuleRefusal, a: u32, b: u32) -> Pass
 fn activity_rules(
     s: &[u8],
     r: &[u8],
-    sizes: Sizes,
     outside: u32,
     counts: &[u32; 32],
     finishes: &[u32; 32],
     ends: &[u32; 32],
     delays: &[u32; 32],
 ) -> Pass
-    requires { ⌜ sizes ≡ sizesOf (model (now s)) ⌝ }
     requires { ⌜ Counted (model (now s)) (plan (now r)) outside (now counts) (now finishes) (now ends) (now delays) ⌝ }
     ensures { λ x. ⌜ passNumbers x ≡ firstBreak (activityRules (model (now (s .entry))) (plan (now (r .entry)))) ⌝ }
 {
     let mut k: u8 = 0;
     while k < 7 {
         let rule = rule_at(k);
-        let pass = over_activities(rule, s, r, sizes, outside, counts, finishes, ends, delays);
+        let pass = over_activities(rule, s, r, outside, counts, finishes, ends, delays);
         if let Pass::Refused(_) = pass {
             return pass;
         }
@@ -71,88 +67,77 @@ fn activity_rules(
 fn two_rules(
     s: &[u8],
     r: &[u8],
-    sizes: Sizes,
     strict: bool,
     froms: &[u32; 32],
     ends: &[u32; 32],
     priorities: &[u32; 32],
 ) -> Pass
-    requires { ⌜ sizes ≡ sizesOf (model (now s)) ⌝ }
     requires { ⌜ Timed (model (now s)) (plan (now r)) (now froms) (now ends) (now priorities) ⌝ }
     ensures { λ x. ⌜ passNumbers x ≡ firstBreak (twoRules strict (model (now (s .entry))) (plan (now (r .entry)))) ⌝ }
 {
+    let sizes = records::model::counts(s);
     let masks = tables::rank_masks(sizes.activities, priorities, strict);
-    let load = over_ticks(load_rule(strict), s, r, sizes, froms, ends, &masks);
+    let load = over_ticks(load_rule(strict), s, r, froms, ends, &masks);
     if let Pass::Refused(_) = load {
         return load;
     }
-    over_ticks(rank_rule(strict), s, r, sizes, froms, ends, &masks)
+    over_ticks(rank_rule(strict), s, r, froms, ends, &masks)
 }
 
 // The rules of ticks of a check, in order: "the strict check goes on with 30 and 31".
 fn tick_rules(
     s: &[u8],
     r: &[u8],
-    sizes: Sizes,
     strict: bool,
     froms: &[u32; 32],
     ends: &[u32; 32],
     priorities: &[u32; 32],
 ) -> Pass
-    requires { ⌜ sizes ≡ sizesOf (model (now s)) ⌝ }
     requires { ⌜ Timed (model (now s)) (plan (now r)) (now froms) (now ends) (now priorities) ⌝ }
     ensures { λ x. ⌜ passNumbers x ≡ firstBreak (tickRules strict (model (now (s .entry))) (plan (now (r .entry)))) ⌝ }
 {
-    let plain = two_rules(s, r, sizes, false, froms, ends, priorities);
+    let plain = two_rules(s, r, false, froms, ends, priorities);
     if let Pass::Refused(_) = plain {
         return plain;
     }
     if strict {
-        return two_rules(s, r, sizes, true, froms, ends, priorities);
+        return two_rules(s, r, true, froms, ends, priorities);
     }
     Pass::Holds
 }
 
 // The rules of a check on well-formed records, in order.
-fn grid_rules(s: &[u8], r: &[u8], sizes: Sizes, strict: bool) -> Pass
-    requires { ⌜ sizes ≡ sizesOf (model (now s)) ⌝ }
+fn grid_rules(s: &[u8], r: &[u8], strict: bool) -> Pass
     requires { ⌜ Formed (model (now s)) ⌝ }
     ensures { λ x. ⌜ passNumbers x ≡ firstBreak (gridRules strict (model (now (s .entry))) (plan (now (r .entry)))) ⌝ }
 {
-    let counts = tables::counts(s, r, sizes);
-    let ends = tables::tabulate(Column::End, s, r, sizes);
-    let delays = tables::tabulate(Column::Delay, s, r, sizes);
-    let finishes = tables::finishes(s, r, sizes, &counts, &delays);
-    let outside = windows::strays(s, r, sizes, &ends);
-    let activities = activity_rules(s, r, sizes, outside, &counts, &finishes, &ends, &delays);
+    let counts = tables::counts(s, r);
+    let ends = tables::tabulate(Column::End, s, r);
+    let delays = tables::tabulate(Column::Delay, s, r);
+    let finishes = tables::finishes(s, r, &counts, &delays);
+    let outside = windows::strays(s, r, &ends);
+    let activities = activity_rules(s, r, outside, &counts, &finishes, &ends, &delays);
     if let Pass::Refused(_) = activities {
         return activities;
     }
-    let froms = tables::froms(s, sizes, &finishes, &counts, &ends, &delays);
-    let priorities = tables::tabulate(Column::Priority, s, r, sizes);
-    tick_rules(s, r, sizes, strict, &froms, &ends, &priorities)
+    let froms = tables::froms(s, &finishes, &counts, &ends, &delays);
+    let priorities = tables::tabulate(Column::Priority, s, r);
+    tick_rules(s, r, strict, &froms, &ends, &priorities)
 }
 
-// The rules of a check on any bytes: "The model is tried first, in list order".
-fn all_rules(s: &[u8], r: &[u8], strict: bool) -> Pass
-    ensures { λ x. ⌜ passNumbers x ≡ firstBreak (checksOf strict (now (s .entry)) (now (r .entry))) ⌝ }
-{
-    let read = records::model::read(s);
-    let ModelRead::Model(sizes) = read else {
-        return read.pass();
-    };
-    let form = records::plan::read(s, r);
-    let PlanRead::Plan = form else {
-        return form.pass();
-    };
-    grid_rules(s, r, sizes, strict)
-}
-
-// A check of a model's and a plan's bytes.
+// A check of a model's and a plan's bytes: "The model is tried first, in list order".
 fn check(s: &[u8], r: &[u8], strict: bool) -> Verdict
     ensures { λ x. ⌜ verdictNumbers x ≡ answer (firstBreak (checksOf strict (now (s .entry)) (now (r .entry)))) (figures (model (now (s .entry))) (plan (now (r .entry)))) ⌝ }
 {
-    let rules = all_rules(s, r, strict);
+    let read = records::model::read(s);
+    if let ModelRead::Refused(why) = read {
+        return Verdict::Refused(why);
+    }
+    let form = records::plan::read(s, r);
+    if let PlanRead::Refused(why) = form {
+        return Verdict::Refused(why);
+    }
+    let rules = grid_rules(s, r, strict);
     if let Pass::Refused(why) = rules {
         return Verdict::Refused(why);
     }

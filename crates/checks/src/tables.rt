@@ -1,7 +1,6 @@
 // Tables of 32 numbers, by activity, that the rules are tried with: each is made once.
 use numbers::larger;
 use records::model::Activity;
-use records::model::Sizes;
 use records::model::Thread;
 ghost use mathlib.Core.Path.{_≡_};
 ghost use mathlib.Core.Bool.{cond};
@@ -10,7 +9,6 @@ ghost use lib.ListN.{length, getD};
 ghost use Rattle.schedule.specs.Bounded.{wordOf};
 ghost use Rattle.schedule.specs.Model.{model};
 ghost use Rattle.schedule.specs.Plan.{plan};
-ghost use Rattle.records.specs.Rows.{sizesOf};
 ghost use Rattle.checks.specs.Tables.{after, columnOf, finishOf, fromOf, outranksFrom, Holds, HoldsOnly, Tallied};
 ghost use Rattle.schedule.specs.Checks.{countOf};
 ghost use Rattle.laws.proofs.EfeLaws.{Ordered};
@@ -48,11 +46,11 @@ fn tally(word: u32, counts: &mut [u32; 32])
 }
 
 // "count(a) is the number of words with bit a"
-pub(crate) fn counts(s: &[u8], r: &[u8], sizes: Sizes) -> [u32; 32]
-    requires { ⌜ sizes ≡ sizesOf (model (now s)) ⌝ }
+pub(crate) fn counts(s: &[u8], r: &[u8]) -> [u32; 32]
     requires { ⌜ model (now s) .activities ≤ 32 ⌝ }
     ensures { λ x. ⌜ Holds (model (now (s .entry))) x (countOf (model (now (s .entry))) (plan (now (r .entry)))) ⌝ }
 {
+    let sizes = records::model::counts(s);
     let horizon = sizes.horizon;
     let mut table = [0u32; 32];
     let mut t: u16 = 0;
@@ -118,11 +116,11 @@ fn value(column: Column, s: &[u8], r: &[u8], a: Activity) -> u32
 }
 
 // The table of the model's activities.
-pub(crate) fn tabulate(column: Column, s: &[u8], r: &[u8], sizes: Sizes) -> [u32; 32]
-    requires { ⌜ sizes ≡ sizesOf (model (now s)) ⌝ }
+pub(crate) fn tabulate(column: Column, s: &[u8], r: &[u8]) -> [u32; 32]
     requires { ⌜ model (now s) .activities ≤ 32 ⌝ }
     ensures { λ x. ⌜ Holds (model (now (s .entry))) x (columnOf column (model (now (s .entry))) (plan (now (r .entry)))) ⌝ }
 {
+    let sizes = records::model::counts(s);
     let n = sizes.activities;
     let mut table = [0u32; 32];
     let mut number: u8 = 0;
@@ -230,20 +228,14 @@ fn earliest(s: &[u8], r: &[u8], n: u8, a: Activity, delays: &[u32; 32], done: &[
 }
 
 // When each activity could be finished with cores enough: efe(a) + count(a).
-pub(crate) fn finishes(
-    s: &[u8],
-    r: &[u8],
-    sizes: Sizes,
-    counts: &[u32; 32],
-    delays: &[u32; 32],
-) -> [u32; 32]
-    requires { ⌜ sizes ≡ sizesOf (model (now s)) ⌝ }
+pub(crate) fn finishes(s: &[u8], r: &[u8], counts: &[u32; 32], delays: &[u32; 32]) -> [u32; 32]
     requires { ⌜ model (now s) .activities ≤ 32 ⌝ }
     requires { ⌜ Ordered (model (now s)) ⌝ }
     requires { ⌜ Holds (model (now s)) (now counts) (countOf (model (now s)) (plan (now r))) ⌝ }
     requires { ⌜ Holds (model (now s)) (now delays) (model (now s) .delay) ⌝ }
     ensures { λ x. ⌜ Holds (model (now (s .entry))) x (finishOf (model (now (s .entry))) (plan (now (r .entry)))) ⌝ }
 {
+    let sizes = records::model::counts(s);
     let n = sizes.activities;
     let mut table = [0u32; 32];
     let mut number: u8 = 0;
@@ -258,19 +250,18 @@ pub(crate) fn finishes(
 // The ticks from which the activities can wait.
 pub(crate) fn froms(
     s: &[u8],
-    sizes: Sizes,
     finishes: &[u32; 32],
     counts: &[u32; 32],
     ends: &[u32; 32],
     delays: &[u32; 32],
 ) -> [u32; 32]
-    requires { ⌜ sizes ≡ sizesOf (model (now s)) ⌝ }
     requires { ⌜ model (now s) .activities ≤ 32 ⌝ }
     requires { ⌜ ((b : ℕ) → b < model (now s) .activities → getD (now ends) b 0 < 2147483648) ⌝ }
     requires { ⌜ ((b : ℕ) → b < model (now s) .activities → getD (now counts) b 0 ≤ getD (now finishes) b 0) ⌝ }
     requires { ⌜ Holds (model (now s)) (now delays) (model (now s) .delay) ⌝ }
     ensures { λ x. ⌜ Holds (model (now (s .entry))) x (fromOf (model (now (s .entry))) (now (finishes .entry)) (now (counts .entry)) (now (ends .entry))) ⌝ }
 {
+    let sizes = records::model::counts(s);
     let n = sizes.activities;
     let mut table = [0u32; 32];
     let mut number: u8 = 0;

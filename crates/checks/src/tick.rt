@@ -2,7 +2,6 @@
 use crate::refused;
 use crate::windows;
 use records::Pass;
-use records::model::Sizes;
 use schedule::RuleRefusal;
 ghost use mathlib.Core.Path.{_≡_};
 ghost use mathlib.Core.Bool.{cond};
@@ -14,7 +13,6 @@ ghost use Rattle.schedule.specs.Rule.{break};
 ghost use Rattle.schedule.specs.Model.{model};
 ghost use Rattle.schedule.specs.Plan.{plan};
 ghost use Rattle.records.specs.Reads.{passNumbers};
-ghost use Rattle.records.specs.Rows.{sizesOf};
 
 // The rules that are tried at ticks.
 pub(crate) enum TickRule {
@@ -124,15 +122,14 @@ pub(crate) fn over_ticks(
     rule: TickRule,
     s: &[u8],
     r: &[u8],
-    sizes: Sizes,
     froms: &[u32; 32],
     ends: &[u32; 32],
     masks: &[u32; 32],
 ) -> Pass
-    requires { ⌜ sizes ≡ sizesOf (model (now s)) ⌝ }
     requires { ⌜ Tabled rule (model (now s)) (plan (now r)) (now froms) (now ends) (now masks) ⌝ }
     ensures { λ x. ⌜ passNumbers x ≡ break (tickRule rule (model (now (s .entry))) (plan (now (r .entry)))) ⌝ }
 {
+    let sizes = records::model::counts(s);
     let cores = sizes.cores as u32;
     let n = sizes.activities as usize;
     let horizon = sizes.horizon;

@@ -2,7 +2,6 @@
 // only, so it is kept from one change to the next.
 use crate::tables::Column;
 use crate::tables::tabulate;
-use records::model::Sizes;
 use ticks::sooner;
 ghost use mathlib.Core.Path.{_≡_};
 ghost use mathlib.Core.Bool.{_&&_, not};
@@ -12,7 +11,6 @@ ghost use lib.ListN.{getD};
 ghost use Rattle.schedule.specs.Bounded.{all, bit, _⇒_};
 ghost use Rattle.schedule.specs.Plan.{plan, active};
 ghost use Rattle.schedule.specs.Model.{model};
-ghost use Rattle.records.specs.Rows.{sizesOf};
 ghost use Rattle.checks.specs.Tables.{Holds};
 ghost use Rattle.checks.specs.Rules.{noneOutside};
 ghost use Rattle.checks.specs.Windows.{openOf, without, Quiet, Stands};
@@ -111,13 +109,13 @@ fn outside(r: &[u8], horizon: u16, n: usize, starts: &[u32; 32], ends: &[u32; 32
 }
 
 // "none outside": the activities that break it.
-pub(crate) fn strays(s: &[u8], r: &[u8], sizes: Sizes, ends: &[u32; 32]) -> u32
-    requires { ⌜ sizes ≡ sizesOf (model (now s)) ⌝ }
+pub(crate) fn strays(s: &[u8], r: &[u8], ends: &[u32; 32]) -> u32
     requires { ⌜ model (now s) .activities ≤ 32 ⌝ }
     requires { ⌜ Holds (model (now s)) (now ends) (plan (now r) .end) ⌝ }
     ensures { λ x. ⌜ ((a : ℕ) → a < model (now (s .entry)) .activities
         → bit x a ≡ not (noneOutside (model (now (s .entry))) (plan (now (r .entry))) a)) ⌝ }
 {
-    let starts = tabulate(Column::Start, s, r, sizes);
+    let sizes = records::model::counts(s);
+    let starts = tabulate(Column::Start, s, r);
     outside(r, sizes.horizon, sizes.activities as usize, &starts, ends)
 }

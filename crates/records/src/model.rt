@@ -336,18 +336,6 @@ pub enum ModelRead {
     Refused(Refusal),
 }
 
-impl ModelRead {
-    // The refusal that it carries, if it does.
-    pub fn pass(self) -> Pass
-        ensures { λ r. ⌜ passNumbers r ≡ refusalOf (modelReadNumbers self) ⌝ }
-    {
-        match self {
-            ModelRead::Model(_) => Pass::Holds,
-            ModelRead::Refused(x) => Pass::Refused(x),
-        }
-    }
-}
-
 // "The model is tried first, in list order": rules 1 to 7.
 pub fn read(s: &[u8]) -> ModelRead
     ensures { λ r. ⌜ modelReadNumbers r ≡ answer (firstBreak (modelForm (now (s .entry)))) (sizesOf (model (now (s .entry)))) ⌝ }

@@ -169,18 +169,6 @@ pub enum PlanRead {
     Refused(Refusal),
 }
 
-impl PlanRead {
-    // The refusal that it carries, if it does.
-    pub fn pass(self) -> Pass
-        ensures { λ r. ⌜ passNumbers r ≡ planReadNumbers self ⌝ }
-    {
-        match self {
-            PlanRead::Plan => Pass::Holds,
-            PlanRead::Refused(x) => Pass::Refused(x),
-        }
-    }
-}
-
 // Rules 8 to 12 and 14, "in list order".
 fn rules(s: &[u8], r: &[u8]) -> Pass
     ensures { λ x. ⌜ passNumbers x ≡ firstBreak (planForm (model (now (s .entry))) (now (r .entry))) ⌝ }

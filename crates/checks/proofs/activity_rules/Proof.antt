@@ -13,12 +13,10 @@ use Rattle.checks.proofs.activity_rules.Statement.{statement}
 use Rattle.checks.proofs.activity_rules.Tie as tie
 
 abbrev Inv-loop : tie.InvT-loop
-Inv-loop s r sizes outside counts finishes ends delays k₀ k =
-    (k ≤ 7) ×
-    (firstBreak (drop k (activityRules (model s) (plan r))) ≡ firstBreak (activityRules (model s) (plan r)))
+Inv-loop s r outside counts finishes ends delays k₀ k = (k ≤ 7) × (firstBreak (drop k (activityRules (model s) (plan r))) ≡ firstBreak (activityRules (model s) (plan r)))
 
 abbrev μ-loop : tie.MeasureT-loop
-μ-loop s r sizes outside counts finishes ends delays k₀ k = 7 - k
+μ-loop s r outside counts finishes ends delays k₀ k = 7 - k
 
 loop-holds : tie.Need-loop-holds Inv-loop μ-loop
 loop-holds c = (omega arith, refl)
@@ -34,12 +32,9 @@ enum-told c = search needs
 
 returns : tie.Need-returns Inv-loop μ-loop
 returns c =
-    let c5 = c .before .before .before .before .before in
-    let c8 = c5 .before .before .before in
-    let x = c8 .args in
-    let l = c5 .loop in
-    rule-breaks (model (x .s .now)) (plan (x .r .now)) (l .k) (c .before .before .before .before .loop-test .taken) _
-    (c .before .before .before .rule-at .ensures) (c .before .before .over-activities .result)
+    let x = c .before .before .before .before .before .before .before .before .args in
+    let l = c .before .before .before .before .before .loop in
+    rule-breaks (model (x .s .now)) (plan (x .r .now)) (l .k) (c .before .before .before .before .loop-test .taken) _ (c .before .before .before .rule-at .ensures) (c .before .before .over-activities .result)
     (c .before .before .over-activities .ensures) _ (c .enum-told .given .1)
     ∙ l .inv .1
 
@@ -54,13 +49,10 @@ loop-less c = omega arith
 
 loop-again : tie.Need-loop-again Inv-loop μ-loop
 loop-again c =
-    let c5 = c .before .before .before .before .before in
-    let c8 = c5 .before .before .before in
-    let x = c8 .args in
-    let l = c5 .loop in (
+    let x = c .before .before .before .before .before .before .before .before .args in
+    let l = c .before .before .before .before .before .loop in (
       omega arith,
-      rule-holds (model (x .s .now)) (plan (x .r .now)) (l .k) (c .before .before .before .before .loop-test .taken) _
-          (c .before .before .before .rule-at .ensures) (c .before .before .over-activities .result)
+      rule-holds (model (x .s .now)) (plan (x .r .now)) (l .k) (c .before .before .before .before .loop-test .taken) _ (c .before .before .before .rule-at .ensures) (c .before .before .over-activities .result)
           (c .before .before .over-activities .ensures) (c .enum-told2 .given .1)
           ∙ l .inv .1,
     )

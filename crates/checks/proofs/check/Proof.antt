@@ -1,49 +1,90 @@
--- `checks::check` meets its contract: the first broken rule, or the figures of a pass. Assumes nothing.
-use mathlib.Core.Option.{Option}
+-- `checks::check` meets its contract: the records' rules, then those of the plan, and the figures of a pass. Assumes nothing.
 use mathlib.Core.Path.{sym, ap, _∙_}
-use Rattle.schedule.specs.Rule.{Refusal}
 use Rattle.schedule.specs.Model.{model}
 use Rattle.schedule.specs.Plan.{plan}
 use Rattle.schedule.specs.Answers.{accepted, answer, figures}
+use Rattle.laws.proofs.Formed.{model-says}
+use Rattle.records.specs.declared.Pass.{Pass}
 use Rattle.records.specs.Reads.{passNumbers}
+use Rattle.checks.proofs.CheckLaws.{model-stops, model-formed, plan-stops, rules-answer}
 use borrow.Author.Needs.{needs}
 use Rattle.checks.proofs.check.Statement.{statement}
 use Rattle.checks.proofs.check.Tie as tie
 
-all-rules-requires : tie.Need-all-rules-requires
-all-rules-requires c κs = search needs
+read-requires : tie.Need-read-requires
+read-requires c κs = search needs
 
-enum-known-rules : tie.Need-enum-known-rules
-enum-known-rules c = search needs
+enum-known-read : tie.Need-enum-known-read
+enum-known-read c = search needs
 
 returns : tie.Need-returns
-unfolding answer
 returns c =
     let x = c .before .before .before .before .before .before .args in
-    ap (λ (o : Option Refusal). answer o (figures (model (x .s .now)) (plan (x .r .now))))
-    (sym (ap passNumbers (c .before .rules .given .1)) ∙ c .before .before .before .all-rules .ensures)
+    model-stops (x .strict) (x .s .now) (x .r .now) _ _ (c .before .read2 .given .1) (c .before .before .before .read .ensures)
 
 enum-told : tie.Need-enum-told
 enum-told c = search needs
 
+read-requires-2 : tie.Need-read-requires-2
+read-requires-2 c κs = search needs
+
+enum-known-form : tie.Need-enum-known-form
+enum-known-form c = search needs
+
+returns-2 : tie.Need-returns-2
+returns-2 c =
+    let x = c .before .before .before .before .before .before .before .before .before .args in
+    plan-stops (x .strict) (x .s .now) (x .r .now) _ _ (c .before .before .before .before .enum-told .given .1) (c .before .before .before .before .before .before .read .ensures) _ _ (c .before .form .given .1) (c .before .before .before .read3 .ensures)
+
+enum-told-2 : tie.Need-enum-told-2
+enum-told-2 c = search needs
+
+grid-rules-requires : tie.Need-grid-rules-requires
+grid-rules-requires c κs =
+    let x = c .before .before .before .before .before .before .before .before .args in
+    model-says (x .s .now) (model-formed (x .strict) (x .s .now) (x .r .now) _ _ (c .before .before .before .enum-told .given .1) (c .before .before .before .before .before .read .ensures))
+
+enum-known-rules : tie.Need-enum-known-rules
+enum-known-rules c = search needs
+
+returns-3 : tie.Need-returns-3
+unfolding answer
+returns-3 c =
+    let x = c .before .before .before .before .before .before .before .before .before .before .before .before .args in
+    ap (λ (q : Pass). answer (passNumbers q) (figures (model (x .s .now)) (plan (x .r .now)))) (sym (c .before .rules .given .1))
+    ∙ rules-answer (x .strict) (x .s .now) (x .r .now) _ _ (c .before .before .before .before .before .before .before .enum-told .given .1) (c .before .before .before .before .before .before .before .before .before .read .ensures) _ (c .before .before .before .before .enum-told2 .given .1)
+    (c .before .before .before .before .before .before .read3 .ensures) (c .before .before .before .grid-rules .result) (c .before .before .before .grid-rules .ensures)
+
+enum-told-3 : tie.Need-enum-told-3
+enum-told-3 c = search needs
+
 figures-of-requires : tie.Need-figures-of-requires
 figures-of-requires c κs = search needs
 
-returns-2 : tie.Need-returns-2
+returns-4 : tie.Need-returns-4
 unfolding answer
-returns-2 c =
-    let x = c .before .before .before .before .before .before .args in
+returns-4 c =
+    let x = c .before .before .before .before .before .before .before .before .before .before .before .before .args in
     ap accepted (c .figures-of .ensures)
-    ∙ ap (λ (o : Option Refusal). answer o (figures (model (x .s .now)) (plan (x .r .now))))
-    (sym (ap passNumbers (c .before .enum-told .given .1)) ∙ c .before .before .before .all-rules .ensures)
+    ∙ ap (λ (q : Pass). answer (passNumbers q) (figures (model (x .s .now)) (plan (x .r .now)))) (sym (c .before .enum-told3 .given .1))
+    ∙ rules-answer (x .strict) (x .s .now) (x .r .now) _ _ (c .before .before .before .before .before .before .before .enum-told .given .1) (c .before .before .before .before .before .before .before .before .before .read .ensures) _ (c .before .before .before .before .enum-told2 .given .1)
+    (c .before .before .before .before .before .before .read3 .ensures) (c .before .before .before .grid-rules .result) (c .before .before .before .grid-rules .ensures)
 
 pub check-spec : {M : Type 1} → statement M
 check-spec =
     tie.close
     (tie.spec
-    all-rules-requires
-    enum-known-rules
+    read-requires
+    enum-known-read
     returns
     enum-told
+    read-requires-2
+    enum-known-form
+    returns-2
+    enum-told-2
+    grid-rules-requires
+    enum-known-rules
+    returns-3
+    enum-told-3
     figures-of-requires
-    returns-2)
+    returns-4)

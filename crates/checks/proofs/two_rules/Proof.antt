@@ -15,25 +15,26 @@ use borrow.Author.Needs.{needs}
 use Rattle.checks.proofs.two_rules.Statement.{statement}
 use Rattle.checks.proofs.two_rules.Tie as tie
 
+counts-requires : tie.Need-counts-requires
+counts-requires c κs = search needs
+
 rank-masks-requires : tie.Need-rank-masks-requires
 unfolding sizesOf
-rank-masks-requires c κs = omega (arith, ap (λ (y : Sizes). y .activities) (c .before .before .pre .0), c .before .before .pre .1 .few)
+rank-masks-requires c κs = omega (arith, ap (λ (y : Sizes). y .activities) (c .counts .ensures), c .before .before .before .pre .few)
 
 load-rule-requires : tie.Need-load-rule-requires
 load-rule-requires c κs = search needs
 
 over-ticks-requires : tie.Need-over-ticks-requires
 over-ticks-requires c κs =
-    let c5 = c .before .before .before .before .before in
-    let x = c5 .args in
+    let c6 = c .before .before .before .before .before .before in
+    let x = c6 .args in
     let m = model (x .s .now) in
     let p = plan (x .r .now) in
-    let masks = c .before .before .rank-masks .result in (
-      c5 .pre .0,
-      subst (λ (rule : TickRule). Tabled rule m p (x .froms .now) (x .ends .now) masks) (sym (c .before .load-rule .ensures))
-          (tabled m p (loadRule (x .strict)) (x .froms .now) (x .ends .now) (x .priorities .now) masks (c5 .pre .1)
-          (load-ranks m p (x .strict) masks)),
-    )
+    subst (λ (rule : TickRule). Tabled rule m p (x .froms .now) (x .ends .now) (c .before .before .rank-masks .result))
+    (sym (c .before .load-rule .ensures))
+    (tabled m p (loadRule (x .strict)) (x .froms .now) (x .ends .now) (x .priorities .now) (c .before .before .rank-masks .result) (c6 .pre)
+    (load-ranks m p (x .strict) (c .before .before .rank-masks .result)))
 
 enum-told : tie.Need-enum-told
 enum-told c = search needs
@@ -41,8 +42,8 @@ enum-told c = search needs
 returns : tie.Need-returns
 unfolding twoRules
 returns c =
-    let c8 = c .before .before .before .before .before .before .before .before in
-    let x = c8 .args in
+    let c9 = c .before .before .before .before .before .before .before .before .before in
+    let x = c9 .args in
     let m = model (x .s .now) in
     let p = plan (x .r .now) in
     stops _ _ (tickRule (loadRule (x .strict)) m p) _ (c .enum-told .given .1)
@@ -59,26 +60,25 @@ over-ticks-requires-2 : tie.Need-over-ticks-requires-2
 unfolding sizesOf
 over-ticks-requires-2 c κs =
     let c7 = c .before .before .before .before .before .before .before in
-    let c10 = c7 .before .before .before in
-    let x = c10 .args in
+    let c8 = c7 .before in
+    let c11 = c8 .before .before .before in
+    let x = c11 .args in
     let m = model (x .s .now) in
     let p = plan (x .r .now) in
-    let masks = c7 .rank-masks .result in (
-      c10 .pre .0,
-      subst (λ (rule : TickRule). Tabled rule m p (x .froms .now) (x .ends .now) masks) (sym (c .before .rank-rule .ensures))
-          (tabled m p (rankRule (x .strict)) (x .froms .now) (x .ends .now) (x .priorities .now) masks (c10 .pre .1)
-          (rank-ranks m p (x .strict) masks
-          (ranked m p (x .strict) _ (x .priorities .now) masks (ap (λ (y : Sizes). y .activities) (c10 .pre .0))
-          (c10 .pre .1 .ranks) (c7 .rank-masks .ensures)))),
-    )
+    subst (λ (rule : TickRule). Tabled rule m p (x .froms .now) (x .ends .now) (c7 .rank-masks .result))
+    (sym (c .before .rank-rule .ensures))
+    (tabled m p (rankRule (x .strict)) (x .froms .now) (x .ends .now) (x .priorities .now) (c7 .rank-masks .result) (c11 .pre)
+    (rank-ranks m p (x .strict) (c7 .rank-masks .result)
+    (ranked m p (x .strict) _ (x .priorities .now) (c7 .rank-masks .result) (ap (λ (y : Sizes). y .activities) (c8 .counts .ensures))
+    (c11 .pre .ranks) (c7 .rank-masks .ensures))))
 
 returns-2 : tie.Need-returns-2
 unfolding twoRules
 returns-2 c =
     let c5 = c .before .before .before .before .before in
     let c7 = c5 .before .before in
-    let c11 = c7 .before .before .before .before in
-    let x = c11 .args in
+    let c12 = c7 .before .before .before .before .before in
+    let x = c12 .args in
     let m = model (x .s .now) in
     let p = plan (x .r .now) in
     goes-on _ (tickRule (loadRule (x .strict)) m p) _ _ (c .before .before .before .enum-told2 .given .1)
@@ -90,6 +90,7 @@ pub two-rules-spec : {M : Type 1} → statement M
 two-rules-spec =
     tie.close
     (tie.spec
+    counts-requires
     rank-masks-requires
     load-rule-requires
     over-ticks-requires

@@ -17,6 +17,9 @@ use Rattle.checks.proofs.activity.breaking.Tie as tie
 activity-row-requires : tie.Need-activity-row-requires
 activity-row-requires c κs = search needs
 
+counts-requires : tie.Need-counts-requires
+counts-requires c κs = search needs
+
 start-of-requires : tie.Need-start-of-requires
 start-of-requires c κs = search needs
 
@@ -25,12 +28,12 @@ enum-told c = search needs
 
 window-holds-requires : tie.Need-window-holds-requires
 window-holds-requires c κs =
-    let x = c .before .before .before .before .before .before .args in
+    let x = c .before .before .before .before .before .before .before .args in
     let m = model (x .s .now) in
     let p = plan (x .r .now) in
-    let tables = c .before .before .before .before .before .before .pre .1 .0 in
-    let less = c .before .before .before .before .before .before .pre .1 .1 in
-    (c .before .before .before .before .before .before .pre .0, tables .strays (x .a .0) less)
+    let tables = c .before .before .before .before .before .before .before .pre .0 in
+    let less = c .before .before .before .before .before .before .before .pre .1 in
+    tables .strays (x .a .0) less
 
 flag-requires : tie.Need-flag-requires
 flag-requires c κs = search needs
@@ -39,7 +42,7 @@ enum-told-2 : tie.Need-enum-told-2
 enum-told-2 c = search needs
 
 at-requires : tie.Need-at-requires
-at-requires c κs = omega (arith, c .before .before .before .before .before .before .pre .1 .0 .few)
+at-requires c κs = omega (arith, c .before .before .before .before .before .before .before .pre .0 .few)
 
 count-holds-requires : tie.Need-count-holds-requires
 count-holds-requires c κs = search needs
@@ -60,33 +63,33 @@ enum-told-4 : tie.Need-enum-told-4
 enum-told-4 c = search needs
 
 at-requires-2 : tie.Need-at-requires-2
-at-requires-2 c κs = omega (arith, c .before .before .before .before .before .before .pre .1 .0 .few)
+at-requires-2 c κs = omega (arith, c .before .before .before .before .before .before .before .pre .0 .few)
 
 at-requires-3 : tie.Need-at-requires-3
-at-requires-3 c κs = omega (arith, c .before .before .before .before .before .before .before .pre .1 .0 .few)
+at-requires-3 c κs = omega (arith, c .before .before .before .before .before .before .before .before .pre .0 .few)
 
 span-holds-requires : tie.Need-span-holds-requires
 span-holds-requires c κs =
-    let c6 = c .before .before .before .before .before .before in
-    let c7 = c6 .before in
+    let c7 = c .before .before .before .before .before .before .before in
     let c8 = c7 .before in
-    let x = c8 .args in
+    let c9 = c8 .before in
+    let x = c9 .args in
     let m = model (x .s .now) in
     let p = plan (x .r .now) in
-    let tables = c8 .pre .1 .0 in
-    let less = c8 .pre .1 .1 in (
+    let tables = c9 .pre .0 in
+    let less = c9 .pre .1 in (
       omega (
         arith,
         c .before .before .before .before .start-of .ensures,
         start-lt (x .r .now)
-            (λ i _. c6 .shared-slice-known2 .given i .fits) (x .a .0),
+            (λ i _. c7 .shared-slice-known2 .given i .fits) (x .a .0),
       ),
       omega (
         arith,
         c .before .at2 .ensures,
         tables .count-ticks (x .a .0) less,
         count-lt m p (x .a .0)
-            (horizon-lt (x .s .now) (λ i _. c7 .shared-slice-known .given i .fits)),
+            (horizon-lt (x .s .now) (λ i _. c8 .shared-slice-known .given i .fits)),
       ),
     )
 
@@ -99,8 +102,8 @@ enum-told-5 c = search needs
 early-mask-requires : tie.Need-early-mask-requires
 unfolding sizesOf
 early-mask-requires c κs =
-    let c6 = c .before .before .before .before .before .before in
-    omega (arith, ap (λ (y : Sizes). y .activities) (c6 .pre .0), c6 .pre .1 .0 .few)
+    let c7 = c .before .before .before .before .before .before .before in
+    omega (arith, ap (λ (y : Sizes). y .activities) (c .before .before .before .counts .ensures), c7 .pre .0 .few)
 
 enum-told-6 : tie.Need-enum-told-6
 enum-told-6 c = search needs
@@ -108,40 +111,40 @@ enum-told-6 c = search needs
 early-mask-requires-2 : tie.Need-early-mask-requires-2
 unfolding sizesOf
 early-mask-requires-2 c κs =
-    let c7 = c .before .before .before .before .before .before .before in
-    omega (arith, ap (λ (y : Sizes). y .activities) (c7 .pre .0), c7 .pre .1 .0 .few)
+    let c8 = c .before .before .before .before .before .before .before .before in
+    omega (arith, ap (λ (y : Sizes). y .activities) (c .before .before .before .before .counts .ensures), c8 .pre .0 .few)
 
 enum-told-7 : tie.Need-enum-told-7
 enum-told-7 c = search needs
 
 at-requires-4 : tie.Need-at-requires-4
-at-requires-4 c κs = omega (arith, c .before .before .before .before .before .before .pre .1 .0 .few)
+at-requires-4 c κs = omega (arith, c .before .before .before .before .before .before .before .pre .0 .few)
 
 at-requires-5 : tie.Need-at-requires-5
-at-requires-5 c κs = omega (arith, c .before .before .before .before .before .before .before .pre .1 .0 .few)
+at-requires-5 c κs = omega (arith, c .before .before .before .before .before .before .before .before .pre .0 .few)
 
 eligible-holds-requires : tie.Need-eligible-holds-requires
 eligible-holds-requires c κs =
-    let c6 = c .before .before .before .before .before .before in
-    let c7 = c6 .before in
+    let c7 = c .before .before .before .before .before .before .before in
     let c8 = c7 .before in
-    let x = c8 .args in
+    let c9 = c8 .before in
+    let x = c9 .args in
     let m = model (x .s .now) in
     let p = plan (x .r .now) in
-    let tables = c8 .pre .1 .0 in
-    let less = c8 .pre .1 .1 in (
+    let tables = c9 .pre .0 in
+    let less = c9 .pre .1 in (
       omega (
         arith,
         c .before .before .before .before .start-of .ensures,
         start-lt (x .r .now)
-            (λ i _. c6 .shared-slice-known2 .given i .fits) (x .a .0),
+            (λ i _. c7 .shared-slice-known2 .given i .fits) (x .a .0),
       ),
       omega (
         arith,
         c .before .at4 .ensures,
         tables .count-ticks (x .a .0) less,
         count-lt m p (x .a .0)
-            (horizon-lt (x .s .now) (λ i _. c7 .shared-slice-known .given i .fits)),
+            (horizon-lt (x .s .now) (λ i _. c8 .shared-slice-known .given i .fits)),
       ),
     )
 
@@ -151,8 +154,8 @@ flag-requires-5 c κs = search needs
 returns : tie.Need-returns
 unfolding rule21
 returns c =
-    let c8 = c .before .before .before .before .before .before .before .before in
-    let x = c8 .args in
+    let c9 = c .before .before .before .before .before .before .before .before .before in
+    let x = c9 .args in
     let m = model (x .s .now) in
     let p = plan (x .r .now) in
     rw (c .before .before .enum-told .given .1)
@@ -161,11 +164,11 @@ returns c =
 returns-2 : tie.Need-returns-2
 unfolding rule22
 returns-2 c =
-    let x = c .before .before .before .before .before .before .before .before .before .args in
+    let x = c .before .before .before .before .before .before .before .before .before .before .args in
     let m = model (x .s .now) in
     let p = plan (x .r .now) in
-    let tables = c .before .before .before .before .before .before .before .before .before .pre .1 .0 in
-    let less = c .before .before .before .before .before .before .before .before .before .pre .1 .1 in
+    let tables = c .before .before .before .before .before .before .before .before .before .before .pre .0 in
+    let less = c .before .before .before .before .before .before .before .before .before .before .pre .1 in
     rw (c .before .before .before .enum-told2 .given .1)
     (flagged (rule22 m p) (x .a .0) _ _ refl (c .flag2 .ensures)
     (count-test m p (x .a .0) _ _ (c .before .count-holds .ensures)
@@ -174,8 +177,8 @@ returns-2 c =
 returns-3 : tie.Need-returns-3
 unfolding rule23 deadlineRule
 returns-3 c =
-    let c8 = c .before .before .before .before .before .before .before .before in
-    let x = c8 .args in
+    let c9 = c .before .before .before .before .before .before .before .before .before in
+    let x = c9 .args in
     let m = model (x .s .now) in
     let p = plan (x .r .now) in
     rw (c .before .before .enum-told3 .given .1)
@@ -185,12 +188,12 @@ returns-4 : tie.Need-returns-4
 unfolding rule24
 returns-4 c =
     let c6 = c .before .before .before .before .before .before in
-    let c10 = c6 .before .before .before .before in
-    let x = c10 .args in
+    let c11 = c6 .before .before .before .before .before in
+    let x = c11 .args in
     let m = model (x .s .now) in
     let p = plan (x .r .now) in
-    let tables = c10 .pre .1 .0 in
-    let less = c10 .pre .1 .1 in
+    let tables = c11 .pre .0 in
+    let less = c11 .pre .1 in
     rw (c .before .before .before .before .enum-told4 .given .1)
     (flagged (rule24 m p) (x .a .0) _ _ refl (c .flag4 .ensures)
     (span-test m p (x .a .0) _ _ _ _ (c .before .span-holds .ensures) (c6 .start-of .ensures)
@@ -200,45 +203,47 @@ returns-4 c =
 returns-5 : tie.Need-returns-5
 unfolding sizesOf activityRowOf
 returns-5 c =
-    let c7 = c .before .before .before .before .before .before .before in
-    let x = c7 .args in
-    let m = model (x .s .now) in
-    let p = plan (x .r .now) in
-    let tables = c7 .pre .1 .0 in
-    let less = c7 .pre .1 .1 in
-    rw (c .before .enum-told5 .given .1)
-    (c .early-mask .ensures
-    ∙ temporal-mask m p (x .ends .now) (x .delays .now) (x .a .0) _ _ _
-    (ap (λ (y : ActivityRow). y .«temporal_mask») (c .before .before .before .before .activity-row .ensures))
-    (c .before .before .before .start-of .ensures) (ap (λ (y : Sizes). y .activities) (c7 .pre .0)) (tables .end-ticks)
-    (tables .delay-ticks))
-
-returns-6 : tie.Need-returns-6
-unfolding sizesOf activityRowOf
-returns-6 c =
     let c5 = c .before .before .before .before .before in
     let c8 = c5 .before .before .before in
     let x = c8 .args in
     let m = model (x .s .now) in
     let p = plan (x .r .now) in
-    let tables = c8 .pre .1 .0 in
-    let less = c8 .pre .1 .1 in
+    let tables = c8 .pre .0 in
+    let less = c8 .pre .1 in
+    rw (c .before .enum-told5 .given .1)
+    (c .early-mask .ensures
+    ∙ temporal-mask m p (x .ends .now) (x .delays .now) (x .a .0) _ _ _
+    (ap (λ (y : ActivityRow). y .«temporal_mask») (c5 .activity-row .ensures))
+    (c .before .before .before .start-of .ensures)
+    (ap (λ (y : Sizes). y .activities) (c .before .before .before .before .counts .ensures)) (tables .end-ticks) (tables .delay-ticks))
+
+returns-6 : tie.Need-returns-6
+unfolding sizesOf activityRowOf
+returns-6 c =
+    let c5 = c .before .before .before .before .before in
+    let c6 = c5 .before in
+    let c9 = c6 .before .before .before in
+    let x = c9 .args in
+    let m = model (x .s .now) in
+    let p = plan (x .r .now) in
+    let tables = c9 .pre .0 in
+    let less = c9 .pre .1 in
     rw (c .before .before .enum-told6 .given .1)
     (c .early-mask2 .ensures
-    ∙ data-mask m p (x .ends .now) _ (x .a .0) _ _ _ (ap (λ (y : ActivityRow). y .«data_mask») (c5 .activity-row .ensures))
-    (c .before .before .before .before .start-of .ensures) (ap (λ (y : Sizes). y .activities) (c8 .pre .0)) (tables .end-ticks)
-    (zeros-at 32))
+    ∙ data-mask m p (x .ends .now) _ (x .a .0) _ _ _ (ap (λ (y : ActivityRow). y .«data_mask») (c6 .activity-row .ensures))
+    (c .before .before .before .before .start-of .ensures) (ap (λ (y : Sizes). y .activities) (c5 .counts .ensures))
+    (tables .end-ticks) (zeros-at 32))
 
 returns-7 : tie.Need-returns-7
 unfolding rule27
 returns-7 c =
     let c6 = c .before .before .before .before .before .before in
-    let c10 = c6 .before .before .before .before in
-    let x = c10 .args in
+    let c11 = c6 .before .before .before .before .before in
+    let x = c11 .args in
     let m = model (x .s .now) in
     let p = plan (x .r .now) in
-    let tables = c10 .pre .1 .0 in
-    let less = c10 .pre .1 .1 in
+    let tables = c11 .pre .0 in
+    let less = c11 .pre .1 in
     rw (c .before .before .before .before .enum-told7 .given .1)
     (flagged (rule27 m p) (x .a .0) _ _ refl (c .flag5 .ensures)
     (eligible-test m p (x .a .0) _ _ _ _ (c .before .eligible-holds .ensures) (c6 .start-of .ensures)
@@ -250,6 +255,7 @@ breaking-spec =
     tie.close
     (tie.spec
     activity-row-requires
+    counts-requires
     start-of-requires
     enum-told
     window-holds-requires

@@ -17,21 +17,22 @@ use Rattle.checks.proofs.activity.over_activities.Statement.{statement}
 use Rattle.checks.proofs.activity.over_activities.Tie as tie
 
 abbrev Inv-loop : tie.InvT-loop
-Inv-loop rule s r sizes outside counts finishes ends delays n a₀ a =
+Inv-loop rule s r outside counts finishes ends delays n a₀ a =
     (a ≤ n) × (n ≡ model s .activities) × Counted (model s) (plan r) outside counts finishes ends delays
     × ClearTo (activityRule rule (model s) (plan r)) a
 
 abbrev μ-loop : tie.MeasureT-loop
-μ-loop rule s r sizes outside counts finishes ends delays n a₀ a = n - a
+μ-loop rule s r outside counts finishes ends delays n a₀ a = n - a
+
+counts-requires : tie.Need-counts-requires Inv-loop μ-loop
+counts-requires c κs = search needs
 
 loop-holds : tie.Need-loop-holds Inv-loop μ-loop
 unfolding sizesOf
-loop-holds c = (omega arith, ap (λ (y : Sizes). y .activities) (c .before .before .pre .0), c .before .before .pre .1, clear-start _)
+loop-holds c = (omega arith, ap (λ (y : Sizes). y .activities) (c .counts .ensures), c .before .before .before .pre, clear-start _)
 
 breaking-requires : tie.Need-breaking-requires Inv-loop μ-loop
-breaking-requires c κs =
-    let l = c .before .loop in
-    (c .before .before .before .before .pre .0, (l .inv .2, omega (arith, l .inv .1, c .loop-test .taken)))
+breaking-requires c κs = let l = c .before .loop in (l .inv .2, omega (arith, l .inv .1, c .loop-test .taken))
 
 lowest-requires : tie.Need-lowest-requires Inv-loop μ-loop
 lowest-requires c κs = search needs
@@ -49,8 +50,8 @@ returns : tie.Need-returns Inv-loop μ-loop
 returns c =
     let c5 = c .before .before .before .before .before in
     let c6 = c5 .before in
-    let c9 = c6 .before .before .before in
-    let x = c9 .args in
+    let c10 = c6 .before .before .before .before in
+    let x = c10 .args in
     let l = c6 .loop in
     let m = model (x .s .now) in
     let p = plan (x .r .now) in
@@ -71,8 +72,8 @@ loop-less c = omega arith
 
 loop-again : tie.Need-loop-again Inv-loop μ-loop
 loop-again c =
-    let c7 = c .before .before .before .before .before .before .before in
-    let x = c7 .args in
+    let c8 = c .before .before .before .before .before .before .before .before in
+    let x = c8 .args in
     let l = c .before .before .before .before .loop in
     let m = model (x .s .now) in
     let p = plan (x .r .now) in (
@@ -87,7 +88,7 @@ loop-again c =
 
 returns-2 : tie.Need-returns-2 Inv-loop μ-loop
 returns-2 c =
-    let x = c .before .before .before .before .args in
+    let x = c .before .before .before .before .before .args in
     let l = c .before .loop in
     let r = activityRule (x .rule) (model (x .s .now)) (plan (x .r .now)) in
     let whole : l .number ≡ r .rows = omega (arith, activity-rows (x .rule) (model (x .s .now)) (plan (x .r .now)), l .inv .1) in
@@ -99,6 +100,7 @@ over-activities-spec =
     (tie.spec
     Inv-loop
     μ-loop
+    counts-requires
     loop-holds
     breaking-requires
     lowest-requires

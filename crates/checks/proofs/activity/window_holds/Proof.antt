@@ -18,28 +18,33 @@ use Rattle.checks.proofs.activity.window_holds.Tie as tie
 activity-row-requires : tie.Need-activity-row-requires
 activity-row-requires c κs = search needs
 
+counts-requires : tie.Need-counts-requires
+counts-requires c κs = search needs
+
 returns : tie.Need-returns
 unfolding window spanOf sizesOf
 returns c =
-    let x = c .before .before .before .before .args in
-    let start : c .before .activity-row .result .start ≡ plan (x .r .now) .start (x .a .0) = ap (λ (y : Span). y .start)
-    (c .before .activity-row .ensures) in
-    let end : c .before .activity-row .result .end ≡ plan (x .r .now) .end (x .a .0) = ap (λ (y : Span). y .end)
-    (c .before .activity-row .ensures) in
-    let horizon : x .sizes .horizon ≡ model (x .s .now) .horizon = ap (λ (y : Sizes). y .horizon)
-    (c .before .before .before .before .pre .0) in
-    simp (← start, ← end, le-ltb _ _ (c .if1 .taken))
-
-returns-2 : tie.Need-returns-2
-unfolding window spanOf sizesOf
-returns-2 c =
     let c5 = c .before .before .before .before .before in
     let x = c5 .args in
     let start : c .before .before .activity-row .result .start ≡ plan (x .r .now) .start (x .a .0) = ap (λ (y : Span). y .start)
     (c .before .before .activity-row .ensures) in
     let end : c .before .before .activity-row .result .end ≡ plan (x .r .now) .end (x .a .0) = ap (λ (y : Span). y .end)
     (c .before .before .activity-row .ensures) in
-    let horizon : x .sizes .horizon ≡ model (x .s .now) .horizon = ap (λ (y : Sizes). y .horizon) (c5 .pre .0) in
+    let horizon : c .before .counts .result .horizon ≡ model (x .s .now) .horizon = ap (λ (y : Sizes). y .horizon)
+    (c .before .counts .ensures) in
+    simp (← start, ← end, le-ltb _ _ (c .if1 .taken))
+
+returns-2 : tie.Need-returns-2
+unfolding window spanOf sizesOf
+returns-2 c =
+    let c6 = c .before .before .before .before .before .before in
+    let x = c6 .args in
+    let start : c .before .before .before .activity-row .result .start ≡ plan (x .r .now) .start (x .a .0) = ap
+    (λ (y : Span). y .start) (c .before .before .before .activity-row .ensures) in
+    let end : c .before .before .before .activity-row .result .end ≡ plan (x .r .now) .end (x .a .0) = ap (λ (y : Span). y .end)
+    (c .before .before .before .activity-row .ensures) in
+    let horizon : c .before .before .counts .result .horizon ≡ model (x .s .now) .horizon = ap (λ (y : Sizes). y .horizon)
+    (c .before .before .counts .ensures) in
     simp (← start, ← end, ← horizon, lt-ltb _ _ (c .before .if1 .left), lt-leb _ _ (c .if2 .taken))
 
 word-requires : tie.Need-word-requires
@@ -55,12 +60,13 @@ returns-3 : tie.Need-returns-3
 unfolding window spanOf sizesOf
 returns-3 c =
     let c5 = c .before .before .before .before .before in
-    let c8 = c5 .before .before .before in
-    let x = c8 .args in
-    let start : c5 .activity-row .result .start ≡ plan (x .r .now) .start (x .a .0) = ap (λ (y : Span). y .start)
-    (c5 .activity-row .ensures) in
-    let end : c5 .activity-row .result .end ≡ plan (x .r .now) .end (x .a .0) = ap (λ (y : Span). y .end) (c5 .activity-row .ensures) in
-    let horizon : x .sizes .horizon ≡ model (x .s .now) .horizon = ap (λ (y : Sizes). y .horizon) (c8 .pre .0) in
+    let c6 = c5 .before in
+    let c9 = c6 .before .before .before in
+    let x = c9 .args in
+    let start : c6 .activity-row .result .start ≡ plan (x .r .now) .start (x .a .0) = ap (λ (y : Span). y .start)
+    (c6 .activity-row .ensures) in
+    let end : c6 .activity-row .result .end ≡ plan (x .r .now) .end (x .a .0) = ap (λ (y : Span). y .end) (c6 .activity-row .ensures) in
+    let horizon : c5 .counts .result .horizon ≡ model (x .s .now) .horizon = ap (λ (y : Sizes). y .horizon) (c5 .counts .ensures) in
     simp (
       ← start,
       ← end,
@@ -90,12 +96,13 @@ returns-4 c =
     let c6 = c5 .before in
     let c7 = c6 .before in
     let c8 = c7 .before in
-    let c11 = c8 .before .before .before in
-    let x = c11 .args in
-    let start : c8 .activity-row .result .start ≡ plan (x .r .now) .start (x .a .0) = ap (λ (y : Span). y .start)
-    (c8 .activity-row .ensures) in
-    let end : c8 .activity-row .result .end ≡ plan (x .r .now) .end (x .a .0) = ap (λ (y : Span). y .end) (c8 .activity-row .ensures) in
-    let horizon : x .sizes .horizon ≡ model (x .s .now) .horizon = ap (λ (y : Sizes). y .horizon) (c11 .pre .0) in
+    let c9 = c8 .before in
+    let c12 = c9 .before .before .before in
+    let x = c12 .args in
+    let start : c9 .activity-row .result .start ≡ plan (x .r .now) .start (x .a .0) = ap (λ (y : Span). y .start)
+    (c9 .activity-row .ensures) in
+    let end : c9 .activity-row .result .end ≡ plan (x .r .now) .end (x .a .0) = ap (λ (y : Span). y .end) (c9 .activity-row .ensures) in
+    let horizon : c8 .counts .result .horizon ≡ model (x .s .now) .horizon = ap (λ (y : Sizes). y .horizon) (c8 .counts .ensures) in
     simp (
       ← start,
       ← end,
@@ -122,13 +129,14 @@ returns-5 c =
     let c7 = c6 .before in
     let c8 = c7 .before in
     let c9 = c8 .before in
-    let c12 = c9 .before .before .before in
-    let x = c12 .args in
+    let c10 = c9 .before in
+    let c13 = c10 .before .before .before in
+    let x = c13 .args in
     let p = plan (x .r .now) in
-    let row = c9 .activity-row .ensures in
-    let start : c9 .activity-row .result .start ≡ p .start (x .a .0) = ap (λ (y : Span). y .start) row in
-    let end : c9 .activity-row .result .end ≡ p .end (x .a .0) = ap (λ (y : Span). y .end) row in
-    let horizon : x .sizes .horizon ≡ model (x .s .now) .horizon = ap (λ (y : Sizes). y .horizon) (c12 .pre .0) in
+    let row = c10 .activity-row .ensures in
+    let start : c10 .activity-row .result .start ≡ p .start (x .a .0) = ap (λ (y : Span). y .start) row in
+    let end : c10 .activity-row .result .end ≡ p .end (x .a .0) = ap (λ (y : Span). y .end) row in
+    let horizon : c9 .counts .result .horizon ≡ model (x .s .now) .horizon = ap (λ (y : Sizes). y .horizon) (c9 .counts .ensures) in
     window-outside (model (x .s .now)) p (x .a .0) (c .has3 .result)
     (sym (ap₂ ltb start end) ∙ lt-ltb _ _ (c8 .if1 .left))
     (sym (ap₂ leb end horizon) ∙ le-leb _ _ (c7 .if2 .left))
@@ -136,13 +144,14 @@ returns-5 c =
     ∙ not-false _ (c .before .before .before .before .if3 .left))
     (ap (λ t. active p (t - 1) (x .a .0)) (sym end) ∙ sym (ap (λ w. bit w (x .a .0)) (c .before .before .before .word2 .ensures))
     ∙ sym (c .before .before .has2 .ensures) ∙ not-false _ (c .before .if4 .left))
-    (c .has3 .ensures ∙ c12 .pre .1)
+    (c .has3 .ensures ∙ c13 .pre)
 
 pub window-holds-spec : {M : Type 1} → statement M
 window-holds-spec =
     tie.close
     (tie.spec
     activity-row-requires
+    counts-requires
     returns
     returns-2
     word-requires

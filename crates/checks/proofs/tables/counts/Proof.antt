@@ -24,15 +24,18 @@ Inv-loop s r horizon table₀ t₀ table t =
 abbrev μ-loop : tie.MeasureT-loop
 μ-loop s r horizon table₀ t₀ table t = horizon - t
 
+counts-requires : tie.Need-counts-requires Inv-loop μ-loop
+counts-requires c κs = search needs
+
 loop-holds : tie.Need-loop-holds Inv-loop μ-loop
 unfolding sizesOf
 loop-holds c = (
   omega arith,
-  ap (λ (y : Sizes). y .horizon) (c .before .before .pre .0),
+  ap (λ (y : Sizes). y .horizon) (c .counts .ensures),
   omega (
     arith,
-    ap (λ (y : Sizes). y .horizon) (c .before .before .pre .0),
-    horizon-lt (c .before .before .args .s .now) (λ i _. c .before .shared-slice-known .given i .fits),
+    ap (λ (y : Sizes). y .horizon) (c .counts .ensures),
+    horizon-lt (c .before .before .before .args .s .now) (λ i _. c .before .before .shared-slice-known .given i .fits),
   ),
   refl,
   λ i l. zeros-at 32 i ∙ sym (count-start _),
@@ -43,12 +46,8 @@ word-requires c κs = search needs
 
 tally-requires : tie.Need-tally-requires Inv-loop μ-loop
 tally-requires c κs =
-    let c6 = c .before .before .before .before .before .before in
-    let l = c .before .before .before .loop in (
-      l .inv .3,
-      few-counted (l .table) (l .t) (λ t i. active (plan (c6 .args .r .now)) t i) (omega (arith, l .inv .0, l .inv .2))
-          (l .inv .3) (l .inv .4),
-    )
+    let l = c .before .before .before .loop in
+    (l .inv .3, few-counted (l .table) (l .t) (λ t i. active (plan (c .before .before .before .before .before .before .before .args .r .now)) t i) (omega (arith, l .inv .0, l .inv .2)) (l .inv .3) (l .inv .4))
 
 add-t : tie.Need-add-t Inv-loop μ-loop
 add-t c = search needs
@@ -59,7 +58,7 @@ loop-less c = search needs
 loop-again : tie.Need-loop-again Inv-loop μ-loop
 loop-again c =
     let l = c .before .before .before .before .loop in
-    let x = c .before .before .before .before .before .before .before .args in (
+    let x = c .before .before .before .before .before .before .before .before .args in (
       omega arith,
       l .inv .1,
       l .inv .2,
@@ -71,8 +70,8 @@ returns : tie.Need-returns Inv-loop μ-loop
 unfolding countOf
 returns c =
     let l = c .before .loop in
-    let x = c .before .before .before .before .args in
-    let pre = c .before .before .before .before .pre .1 in
+    let x = c .before .before .before .before .before .args in
+    let pre = c .before .before .before .before .before .pre in
     let whole : l .t ≡ model (x .s .now) .horizon = omega (arith, l .inv .0, l .inv .1) in
     λ i h. l .inv .4 i (omega (arith, h, pre)) ∙ ap (λ k. count k (λ v. active (plan (x .r .now)) v i)) whole
 
@@ -82,6 +81,7 @@ counts-spec =
     (tie.spec
     Inv-loop
     μ-loop
+    counts-requires
     loop-holds
     word-requires
     tally-requires

@@ -23,22 +23,25 @@ Inv-loop s r counts delays n table₀ a₀ table a =
 abbrev μ-loop : tie.MeasureT-loop
 μ-loop s r counts delays n table₀ a₀ table a = n - a
 
+counts-requires : tie.Need-counts-requires Inv-loop μ-loop
+counts-requires c κs = search needs
+
 loop-holds : tie.Need-loop-holds Inv-loop μ-loop
 unfolding sizesOf
 loop-holds c = (
   omega arith,
-  ap (λ (y : Sizes). y .activities) (c .before .before .pre .0),
+  ap (λ (y : Sizes). y .activities) (c .counts .ensures),
   refl,
   λ i. omega (arith, zeros-at 32 i),
   λ i l. absurd (omega arith),
-  c .before .before .pre .1 .0,
+  c .before .before .before .pre .0,
 )
 
 earliest-requires : tie.Need-earliest-requires Inv-loop μ-loop
 earliest-requires c κs =
-    let c5 = c .before .before .before .before .before in
+    let c6 = c .before .before .before .before .before .before in
     let l = c .before .before .loop in
-    let pre = c5 .pre .1 in (
+    let pre = c6 .pre in (
       omega (arith, l .inv .1, l .inv .5),
       (λ b h. pre .1 .1 .1 b (omega (arith, h, l .inv .1)), λ b _. omega (arith, l .inv .3 b, l .inv .1, l .inv .5, l .inv .0)),
     )
@@ -49,10 +52,10 @@ at-requires c κs = omega arith
 add-table : tie.Need-add-table Inv-loop μ-loop
 add-table c =
     let l = c .before .before .before .before .loop in
-    let x = c .before .before .before .before .before .before .before .args in
-    let pre = c .before .before .before .before .before .before .before .pre .1 in
-    let s-bytes : Bytes (x .s .now) = λ i _. c .before .before .before .before .before .before .shared-slice-known .given i .fits in
-    let r-bytes : Bytes (x .r .now) = λ i _. c .before .before .before .before .before .shared-slice-known2 .given i .fits in
+    let x = c .before .before .before .before .before .before .before .before .args in
+    let pre = c .before .before .before .before .before .before .before .before .pre in
+    let s-bytes : Bytes (x .s .now) = λ i _. c .before .before .before .before .before .before .before .shared-slice-known .given i .fits in
+    let r-bytes : Bytes (x .r .now) = λ i _. c .before .before .before .before .before .before .shared-slice-known2 .given i .fits in
     let count = c .at .ensures ∙ pre .1 .1 .0 (l .number) (omega (arith, l .inv .1, c .before .before .before .loop-test .taken)) in
     let bound = finish-bound (model (x .s .now)) (plan (x .r .now)) (pre .1 .0) (delay-lt (x .s .now) s-bytes)
     (release-lt (x .r .now) r-bytes) (horizon-lt (x .s .now) s-bytes) (l .table) (l .number) _ _ _ (131072 * l .number) (l .inv .3)
@@ -77,10 +80,10 @@ loop-less c = omega arith
 loop-again : tie.Need-loop-again Inv-loop μ-loop
 loop-again c =
     let l = c .before .before .before .before .loop in
-    let x = c .before .before .before .before .before .before .before .args in
-    let pre = c .before .before .before .before .before .before .before .pre .1 in
-    let s-bytes : Bytes (x .s .now) = λ i _. c .before .before .before .before .before .before .shared-slice-known .given i .fits in
-    let r-bytes : Bytes (x .r .now) = λ i _. c .before .before .before .before .before .shared-slice-known2 .given i .fits in
+    let x = c .before .before .before .before .before .before .before .before .args in
+    let pre = c .before .before .before .before .before .before .before .before .pre in
+    let s-bytes : Bytes (x .s .now) = λ i _. c .before .before .before .before .before .before .before .shared-slice-known .given i .fits in
+    let r-bytes : Bytes (x .r .now) = λ i _. c .before .before .before .before .before .before .shared-slice-known2 .given i .fits in
     let count = c .at .ensures ∙ pre .1 .1 .0 (l .number) (omega (arith, l .inv .1, c .before .before .before .loop-test .taken)) in
     let bound = finish-bound (model (x .s .now)) (plan (x .r .now)) (pre .1 .0) (delay-lt (x .s .now) s-bytes)
     (release-lt (x .r .now) r-bytes) (horizon-lt (x .s .now) s-bytes) (l .table) (l .number) _ _ _ (131072 * l .number) (l .inv .3)
@@ -107,6 +110,7 @@ finishes-spec =
     (tie.spec
     Inv-loop
     μ-loop
+    counts-requires
     loop-holds
     earliest-requires
     at-requires

@@ -20,9 +20,19 @@ Inv-loop s finishes counts ends delays n table₀ a₀ table a =
 abbrev μ-loop : tie.MeasureT-loop
 μ-loop s finishes counts ends delays n table₀ a₀ table a = n - a
 
+counts-requires : tie.Need-counts-requires Inv-loop μ-loop
+counts-requires c κs = search needs
+
 loop-holds : tie.Need-loop-holds Inv-loop μ-loop
 unfolding sizesOf
-loop-holds c = (omega arith, ap (λ (y : Sizes). y .activities) (c .before .pre .0), refl, λ i l. absurd (omega arith), c .before .pre .1 .0)
+loop-holds c = (
+  omega arith,
+  ap (λ (y : Sizes). y .activities) (c .counts .ensures),
+  refl,
+  λ i l. absurd
+      (omega arith),
+  c .before .before .pre .0,
+)
 
 at-requires : tie.Need-at-requires Inv-loop μ-loop
 at-requires c κs = omega arith
@@ -33,7 +43,7 @@ at-requires-2 c κs = omega arith
 sub-larger : tie.Need-sub-larger Inv-loop μ-loop
 sub-larger c =
     let l = c .before .before .before .loop in
-    let pre = c .before .before .before .before .before .pre .1 in
+    let pre = c .before .before .before .before .before .before .pre in
     let fact = pre .1 .1 .0 (l .number) (omega (arith, l .inv .1, c .before .before .loop-test .taken)) in
     omega (arith, fact, c .before .at .ensures, c .at2 .ensures)
 
@@ -42,8 +52,8 @@ after-requires c κs =
     let l = c .before .before .before .loop in (
       omega (arith, l .inv .1, l .inv .4),
       (
-        λ b h. c .before .before .before .before .before .pre .1 .1 .1 .1 b (omega (arith, h, l .inv .1)),
-        λ b h. c .before .before .before .before .before .pre .1 .1 .0 b (omega (arith, h, l .inv .1)),
+        λ b h. c .before .before .before .before .before .before .pre .1 .1 .1 b (omega (arith, h, l .inv .1)),
+        λ b h. c .before .before .before .before .before .before .pre .1 .0 b (omega (arith, h, l .inv .1)),
       ),
     )
 
@@ -68,7 +78,7 @@ loop-less c = omega arith
 loop-again : tie.Need-loop-again Inv-loop μ-loop
 loop-again c =
     let l = c .before .before .before .before .before .loop in
-    let x = c .before .before .before .before .before .before .before .args in (
+    let x = c .before .before .before .before .before .before .before .before .args in (
       omega arith,
       l .inv .1,
       simp length-set (l .inv .2),
@@ -92,6 +102,7 @@ froms-spec =
     (tie.spec
     Inv-loop
     μ-loop
+    counts-requires
     loop-holds
     at-requires
     at-requires-2

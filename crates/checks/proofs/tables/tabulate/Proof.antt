@@ -21,13 +21,16 @@ Inv-loop column s r n table₀ a₀ table a =
 abbrev μ-loop : tie.MeasureT-loop
 μ-loop column s r n table₀ a₀ table a = n - a
 
+counts-requires : tie.Need-counts-requires Inv-loop μ-loop
+counts-requires c κs = search needs
+
 loop-holds : tie.Need-loop-holds Inv-loop μ-loop
 unfolding sizesOf
 loop-holds c = (
   omega arith,
   ap (λ (y : Sizes). y .activities)
-      (c .before .before .pre .0),
-  c .before .before .pre .1,
+      (c .counts .ensures),
+  c .before .before .before .pre,
   refl,
   λ i l. absurd (omega arith),
 )
@@ -52,9 +55,9 @@ loop-less c = omega arith
 
 loop-again : tie.Need-loop-again Inv-loop μ-loop
 loop-again c =
-    let c5 = c .before .before .before .before .before in
+    let c6 = c .before .before .before .before .before .before in
     let l = c .before .before .loop in
-    let x = c5 .args in (
+    let x = c6 .args in (
       omega arith,
       l .inv .1,
       l .inv .2,
@@ -74,6 +77,7 @@ tabulate-spec =
     (tie.spec
     Inv-loop
     μ-loop
+    counts-requires
     loop-holds
     value-requires
     cast-table

@@ -27,6 +27,9 @@ Inv-loop rule s r froms ends masks cores n horizon waitable₀ t₀ waitable t =
 abbrev μ-loop : tie.MeasureT-loop
 μ-loop rule s r froms ends masks cores n horizon waitable₀ t₀ waitable t = horizon - t
 
+counts-requires : tie.Need-counts-requires Inv-loop μ-loop
+counts-requires c κs = search needs
+
 cast-cores : tie.Need-cast-cores Inv-loop μ-loop
 cast-cores c = search needs
 
@@ -39,12 +42,12 @@ unknown-requires c κs = search needs
 loop-holds : tie.Need-loop-holds Inv-loop μ-loop
 unfolding sizesOf
 loop-holds c =
-    let e = c .before .before .before .before .before .pre .0 in (
+    let e = c .before .before .before .counts .ensures in (
       omega arith,
       ap (λ (y : Sizes). y .horizon) e,
       ap (λ (y : Sizes). y .activities) e,
       ap (λ (y : Sizes). y .cores) e,
-      c .before .before .before .before .before .pre .1,
+      c .before .before .before .before .before .before .pre,
       clear-start _,
       unknown-stands _ _ _ _ _ (c .unknown .ensures),
     )
@@ -75,24 +78,19 @@ refused-requires c κs = search needs
 
 returns : tie.Need-returns Inv-loop μ-loop
 returns c =
-    let c5 = c .before .before .before .before .before in
-    let c6 = c5 .before in
-    let c7 = c6 .before in
-    let c8 = c7 .before in
-    let c14 = c8 .before .before .before .before .before .before in
-    let l = c8 .loop in
-    let x = c14 .args in
+    let l = c .before .before .before .before .before .before .before .before .loop in
+    let x = c .before .before .before .before .before .before .before .before .before .before .before .before .before .before .before .args in
     let m = model (x .s .now) in
     let p = plan (x .r .now) in
     let mask =
     tick-read (x .rule) m p (x .froms .now) (x .ends .now) (x .masks .now) (l .inv .4) (l .t) _ _ _ _ _
-    (c .before .before .before .before .breaking .ensures) (c5 .word .ensures) (l .inv .3) (c6 .at .ensures .0) (l .inv .2) in
+    (c .before .before .before .before .breaking .ensures) (c .before .before .before .before .before .word .ensures) (l .inv .3) (c .before .before .before .before .before .before .at .ensures .0) (l .inv .2) in
     let few = tick-columns (x .rule) m p (l .inv .4 .few) in
     c .refused .ensures
     ∙ ap (λ (k : ℕ). some (record { number = k; A = l .t; B = c .before .before .before .lowest .result }))
     (ap ruleNumber (c .before .name .ensures) ∙ tick-number (x .rule) m p)
     ∙ sym (clear-stop (tickRule (x .rule) m p) (l .t) _ (l .inv .5)
-    (omega (arith, tick-rows (x .rule) m p, l .inv .1, c7 .loop-test .taken))
+    (omega (arith, tick-rows (x .rule) m p, l .inv .1, c .before .before .before .before .before .before .before .loop-test .taken))
     (row-stops (tickRule (x .rule) m p) (l .t) _ _ few mask (c .before .before .before .lowest .ensures) (c .before .before .if1 .taken)))
 
 add-t : tie.Need-add-t Inv-loop μ-loop
@@ -103,16 +101,13 @@ loop-less c = omega arith
 
 loop-again : tie.Need-loop-again Inv-loop μ-loop
 loop-again c =
-    let c6 = c .before .before .before .before .before .before in
-    let c12 = c6 .before .before .before .before .before .before in
-    let l = c6 .loop in
-    let x = c12 .args in
+    let l = c .before .before .before .before .before .before .loop in
+    let x = c .before .before .before .before .before .before .before .before .before .before .before .before .before .args in
     let m = model (x .s .now) in
     let p = plan (x .r .now) in
     let mask =
     tick-read (x .rule) m p (x .froms .now) (x .ends .now) (x .masks .now) (l .inv .4) (l .t) _ _ _ _ _
-    (c .before .before .breaking .ensures) (c .before .before .before .word .ensures) (l .inv .3)
-    (c .before .before .before .before .at .ensures .0) (l .inv .2) in
+    (c .before .before .breaking .ensures) (c .before .before .before .word .ensures) (l .inv .3) (c .before .before .before .before .at .ensures .0) (l .inv .2) in
     let few = tick-columns (x .rule) m p (l .inv .4 .few) in (
       omega arith,
       l .inv .1,
@@ -127,7 +122,7 @@ loop-again c =
 returns-2 : tie.Need-returns-2 Inv-loop μ-loop
 returns-2 c =
     let l = c .before .loop in
-    let x = c .before .before .before .before .before .before .before .args in
+    let x = c .before .before .before .before .before .before .before .before .args in
     let r = tickRule (x .rule) (model (x .s .now)) (plan (x .r .now)) in
     let whole : l .t ≡ r .rows = omega (arith, tick-rows (x .rule) (model (x .s .now)) (plan (x .r .now)), l .inv .1) in
     sym (clear-end r (subst (ClearTo r) whole (l .inv .5)))
@@ -138,6 +133,7 @@ over-ticks-spec =
     (tie.spec
     Inv-loop
     μ-loop
+    counts-requires
     cast-cores
     cast-n
     unknown-requires
