@@ -2,8 +2,8 @@
 -- Assumes nothing.
 use Prim.Native.Nat.{ℕ}
 use mathlib.Core.List.{List}
-use mathlib.Core.Option.{Option, some, none}
-use mathlib.Core.Path.{_≡_, refl, sym, ap, _∙_}
+use mathlib.Core.Option.{some}
+use mathlib.Core.Path.{_≡_, sym, ap, _∙_}
 use Rattle.schedule.specs.Rule
 use Rattle.schedule.specs.Rule.{firstBreak}
 use Rattle.schedule.specs.Model.{model, modelForm}
@@ -18,11 +18,7 @@ use Rattle.records.specs.declared.model.ModelRead.{ModelRead}
 use Rattle.records.specs.declared.plan.PlanRead.{PlanRead}
 use Rattle.records.specs.Reads.{refusalOf, modelReadNumbers, planReadNumbers}
 use Rattle.records.specs.Rows.{sizesOf}
-
-answer-refusal : {F : Type 0} (o : Option Rule.Refusal) (pass : F) → refusalOf (answer o pass) ≡ o
-unfolding answer
-answer-refusal none pass = refl
-answer-refusal (some x) pass = refl
+use Rattle.records.proofs.Reading.{answer-refusal}
 
 module _ (s r : List ℕ) (read : ModelRead)
     (e : modelReadNumbers read ≡ answer (firstBreak (modelForm s)) (sizesOf (model s))) where
