@@ -7,6 +7,7 @@ import pathlib
 import signal
 import subprocess
 import sys
+import tempfile
 import threading
 import time
 
@@ -158,6 +159,12 @@ class Fed:
             self.run("a first record past the limit, %d bytes" % n, first_length(LIMIT + 1, n), refused(1))
         self.fed("a second record up to the limit, in pieces, the pipe left open",
                  in_pieces(second_length(LIMIT - len(MODEL), LIMIT), 4000), refused(11), close=False)
+        with tempfile.TemporaryFile() as file:
+            file.write(MODEL.ljust(100000, b"\0"))
+            file.seek(0)
+            self.started("a file of 100,000 bytes", [self.path], (0, refused(8), None), stdin=file)
+            if os.lseek(file.fileno(), 0, os.SEEK_CUR) != LIMIT:
+                self.fail("a file of 100,000 bytes: it is not left at the limit")
 
     def unreadable(self, pair):
         """An input that cannot be read: a message, and nothing on standard output."""

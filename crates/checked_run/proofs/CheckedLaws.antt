@@ -1,6 +1,7 @@
 -- What demand 3 says of the run's definitions is what it says of the three answers and of the buffer.
 -- Assumes nothing.
 use Prim.Native.Nat.{ℕ}
+use native.Mathlib.Omega.{arith}
 use mathlib.Core.List.{List}
 use mathlib.Core.Path.{_≡_, sym, ap, subst, _∙_}
 use lib.ListN.{length, take}
@@ -10,11 +11,31 @@ use Rattle.schedule.specs.Model.{model, modelForm}
 use Rattle.schedule.specs.Choice.{choiceForm}
 use Rattle.schedule.specs.Answers.{accepted, refused, Written, plainVerdict, strictVerdict}
 use Rattle.schedule.specs.Answers.{runChecks, runAnswer, runBuffer}
+use Rattle.schedule.specs.Numbers.{refusalNumbers, verdictNumbers, writtenNumbers}
+use Rattle.schedule.specs.declared.RunVerdict.{RunVerdict}
 use Rattle.laws.proofs.FirstBreak.{hold-append}
+use Rattle.laws.proofs.NumbersLaws.{refusal-injective, verdict-injective, run-verdict-injective}
 use Rattle.demands.specs.Strict.{PassesWith, planWritten, SingleStrictPlan}
 use Rattle.demands.proofs.Demand3.{demand-3}
 use Rattle.demands.proofs.Page.{checked, roomy}
-use Rattle.checked_run.specs.Checked.{CheckedRun, ran, sent-back, checkedOf, checkedRun, OnlyPlan, KeepsDemand3}
+use Rattle.checked_run.specs.declared.Checked.{Checked}
+use Rattle.checked_run.specs.Checked.{CheckedRun, checkedNumbers, ran, sent-back, checkedOf, checkedRun, OnlyPlan, KeepsDemand3}
+
+-- no two answers say the same
+pub checked-injective : (x y : Checked) → checkedNumbers x ≡ checkedNumbers y → x ≡ y
+checked-injective (Checked.Ran w p t) (Checked.Ran w′ p′ t′) e =
+    let written : accepted (writtenNumbers w) ≡ accepted (writtenNumbers w′) = cc in
+    let plain : verdictNumbers p ≡ verdictNumbers p′ = cc in
+    let strict : verdictNumbers t ≡ verdictNumbers t′ = cc in
+    let ran-alike = run-verdict-injective (RunVerdict.Accepted w) (RunVerdict.Accepted w′) written in
+    let plain-alike = verdict-injective p p′ plain in
+    let strict-alike = verdict-injective t t′ strict in
+    cc
+checked-injective (Checked.Ran w p t) (Checked.Refused x) e = let z : _≡_ {A = ℕ} 0 1 = cc in absurd (omega arith)
+checked-injective (Checked.Refused x) (Checked.Ran w p t) e = let z : _≡_ {A = ℕ} 0 1 = cc in absurd (omega arith)
+checked-injective (Checked.Refused x) (Checked.Refused y) e =
+    let same : refusalNumbers x ≡ refusalNumbers y = cc in
+    ap Checked.Refused (refusal-injective x y same)
 
 -- what the call promises: its answer, the buffer, and demand 3 of both
 abbrev Promised : List ℕ → List ℕ → List ℕ → List ℕ → CheckedRun → Type 0

@@ -61,7 +61,7 @@ pub efe-largest : (s r : List ℕ) → MeetsForm s → (a : ℕ) → a < model s
 efe-largest s r formed a l =
     let ordered = model-says s formed .ordered in
     record {
-      above = record {
+      none-above = record {
         release = efe-release (model s) (plan r) ordered a l;
         temporal = λ b lb t. efe-temporal (model s) (plan r) ordered a b l lb t;
         by-data = λ b lb t. efe-data (model s) (plan r) ordered a b l lb t;
@@ -73,7 +73,8 @@ efe-largest s r formed a l =
 
 -- what the plain check passes has a greatest end above its least release, so that the makespan is their whole difference
 pub makespan-whole : (s r : List ℕ) (f : Figures) → plainVerdict s r ≡ accepted f
-    → f .makespan + least (model s .threads) (plan r .release) ≡ greatest (model s .activities) (plan r .end)
+    → (least (model s .threads) (plan r .release) < greatest (model s .activities) (plan r .end))
+    × (f .makespan + least (model s .threads) (plan r .release) ≡ greatest (model s .activities) (plan r .end))
 unfolding plainChecks figures
 makespan-whole s r f e =
     let pass = plain-accepted s r f .0 e in

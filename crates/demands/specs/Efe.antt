@@ -1,4 +1,4 @@
--- What it is for a number to be efe of an activity, with quantifiers and nothing that computes.
+-- That efe(a) is the largest of what the paper lists, with quantifiers. efe itself is that of crate schedule, Checks.
 -- Assumes nothing.
 use Prim.Native.Nat.{ℕ, _+_, _≤_, _<_}
 use lib.Dec.{T}
@@ -17,5 +17,5 @@ pub record NoneAbove (m : Model) (p : Plan) (a x : ℕ) : Type 0 where
 
 -- "efe(a) is the largest of": none of them passes it, and no smaller number has that
 pub record Largest (m : Model) (p : Plan) (a : ℕ) : Type 0 where
-  pub above : NoneAbove m p a (efe m p a)
+  pub none-above : NoneAbove m p a (efe m p a)
   pub least : (x : ℕ) → NoneAbove m p a x → efe m p a ≤ x

@@ -55,7 +55,7 @@ pub length-tick : (t w : ℕ) → length (tickLine t w) ≡ length (decimal t) +
 unfolding tickLine
 length-tick t w = simp (length-append, length-hex) (omega arith)
 
--- the lines of fewer than ten thousand ticks have at most 14 bytes each
+-- the lines of at most ten thousand ticks have at most 14 bytes each
 pub length-ticks : (h : ℕ) (word : ℕ → ℕ) → h ≤ 10000 → length (rows h (λ t. tickLine t (word t))) ≤ 14 * h
 unfolding rows
 length-ticks zero word l = omega arith

@@ -4,7 +4,6 @@ use Prim.Native.Nat.{ℕ}
 use mathlib.Core.List.{List}
 use mathlib.Core.Option.{some}
 use mathlib.Core.Path.{_≡_, sym, ap, _∙_}
-use Rattle.schedule.specs.Rule
 use Rattle.schedule.specs.Rule.{firstBreak}
 use Rattle.schedule.specs.Model.{model, modelForm}
 use Rattle.schedule.specs.Plan.{planForm}
