@@ -11,7 +11,7 @@ use mathlib.Core.Logic.{_⊎_, inl, inr, _≢_}
 use mathlib.Core.Path.{_≡_, refl, sym, ap, subst, _∙_}
 use lib.ListN.{length, take, drop, getD, set, length-append, length-set, length-drop, take-append-drop}
 use lib.ListN.{List·getD-append}
-use lib.Seq.{ext-getD, getD-set-other, getD-set-same, length-sets, sets, sets-eq, take-add, drop-drop}
+use lib.Seq.{ext-getD, getD-set-other, getD-set-same, length-sets, sets, sets-eq, take-add, drop-drop, drop-at, length-take-le}
 use borrow.Author.Tests.{le-leb, lt-leb}
 use Rattle.schedule.specs.Fields.{bytes}
 use Rattle.laws.proofs.FieldLaws.{getD-behind, length-bytes}
@@ -149,6 +149,25 @@ pub put-next : (at to : ℕ) (a b l : List ℕ) → to ≡ at + length a → to 
     → put to b (put at a l) ≡ put at (a ++ b) l
 put-next at to a b l e h =
     ap (λ (n : ℕ). put n b (put at a l)) e ∙ put-then at a b l (omega (arith, length-append a b))
+
+-- the same of the lists that a caller had and left
+pub put-after : (at to : ℕ) (a b l l₁ l₂ : List ℕ) → to ≡ at + length a → to + length b ≤ length l
+    → l₁ ≡ put at a l → l₂ ≡ put to b l₁ → l₂ ≡ put at (a ++ b) l
+put-after at to a b l l₁ l₂ e h p q = q ∙ ap (put to b) p ∙ put-next at to a b l e h
+
+-- what is put in a place twice
+pub put-twice : (at : ℕ) (b l : List ℕ) → at + length b ≤ length l → put at b (put at b l) ≡ put at b l
+put-twice at b l h =
+    put-ext at b l (put at b (put at b l)) h (length-put at b (put at b l) ∙ length-put at b l)
+    (λ i k. put-at at b (put at b l) (omega (arith, length-put at b l)) i k)
+    (λ i o. put-off at b (put at b l) i o ∙ put-off at b l i o)
+
+-- what stands behind it
+pub drop-put : (at n : ℕ) (b l : List ℕ) → n ≡ at + length b → n ≤ length l → drop n (put at b l) ≡ drop n l
+drop-put at n b l e h =
+    ap (drop n) (put-fits at b l (omega arith) ∙ ap (λ (k : ℕ). take at l ++ b ++ drop k l) (sym e))
+    ∙ drop-at (take at l ++ b) (drop n l) n
+    (length-append (take at l) b ∙ ap (λ (k : ℕ). k + length b) (length-take-le at l (omega arith)) ∙ sym e)
 
 -- nothing is written
 pub put-nil : (at : ℕ) (l : List ℕ) → put at [] l ≡ l

@@ -30,6 +30,12 @@ field-next s at j = ap (λ (i : ℕ). field s at i) (add-one j)
 pub getD-past : (s : List ℕ) (at j : ℕ) → length s - at ≤ j → 0 ≡ getD s (at + j) 0
 getD-past s at j h = sym (List·getD-eq-default s 0 {n = at + j} (omega arith))
 
+-- a field past the end
+pub field-past : (s : List ℕ) (at k : ℕ) → length s ≤ at → field s at k ≡ 0
+unfolding field
+field-past s at zero h = refl
+field-past s at (suc k) h = omega (arith, field-past s at k h, getD-past s at k (omega arith))
+
 -- a field of one byte is the byte
 pub field-one : (s : List ℕ) (at : ℕ) → field s at 1 ≡ getD s at 0
 field-one s at = omega (arith, field-none s at, field-next s at 0, ap (λ (i : ℕ). getD s i 0) (add-zero at))

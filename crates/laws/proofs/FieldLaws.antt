@@ -3,12 +3,12 @@
 -- Assumes nothing.
 use Prim.Native.Nat.{ℕ, zero, suc, _+_, _-_, _*_, _/_, _%_, _^_, _<_}
 use native.Mathlib.Decide.{decLt}
-use native.Mathlib.Nat.{mul-zero, mul-suc, mul-le-mul-left, pow-zero, pow-suc}
+use native.Mathlib.Nat.{add-assoc, mul-zero, mul-suc, mul-le-mul-left, pow-zero, pow-suc}
 use native.Mathlib.Omega.{arith}
 use mathlib.Core.List.{List, [], _∷_, _++_}
-use mathlib.Core.Path.{_≡_, refl, sym, ap₂, _∙_}
-use lib.ListN.{length, getD, length-append, List·getD-append, List·getD-eq-default}
-use lib.Seq.{getD-append-add, getD-at}
+use mathlib.Core.Path.{_≡_, refl, sym, ap, ap₂, _∙_}
+use lib.ListN.{length, getD, drop, length-append, List·getD-append, List·getD-eq-default}
+use lib.Seq.{getD-append-add, getD-at, getD-drop}
 use Rattle.schedule.specs.Bounded.{rows}
 use Rattle.schedule.specs.Fields.{field, bytes, Bytes}
 use Rattle.laws.proofs.Tests.{up-to}
@@ -37,6 +37,14 @@ pub field-lt : (s : List ℕ) → Bytes s → (at k : ℕ) → field s at k < 25
 unfolding field
 field-lt s h at zero = rw pow-zero (omega arith)
 field-lt s h at (suc k) = rw pow-suc (omega (arith, field-lt s h at k, byte-lt s h (at + k)))
+
+-- a field of the part behind the first j
+pub field-drop : (j : ℕ) (s : List ℕ) (at k : ℕ) → field (drop j s) at k ≡ field s (j + at) k
+unfolding field
+field-drop j s at zero = refl
+field-drop j s at (suc k) =
+    ap₂ (λ (v b : ℕ). v * 256 + b) (field-drop j s at k)
+    (getD-drop j s (at + k) 0 ∙ ap (λ (i : ℕ). getD s i 0) (sym (add-assoc j at k)))
 
 -- equal fields have equal bytes
 pub field-injective : (s s′ : List ℕ) → Bytes s → Bytes s′ → (at at′ k : ℕ) → field s at k ≡ field s′ at′ k

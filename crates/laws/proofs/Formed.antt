@@ -1,13 +1,13 @@
 -- What a model that meets its form rules, and a choice that passes its tests, give the theorem of demand 3.
 -- Assumes nothing.
-use Prim.Native.Nat.{ℕ, _+_, _*_, _≤_, _<_}
+use Prim.Native.Nat.{ℕ, _+_, _≤_, _<_}
 use native.Mathlib.Decide.{decLt}
 use native.Mathlib.Omega.{arith}
 use mathlib.Core.List.{List}
 use Rattle.schedule.specs.Fields.{Bytes}
 use Rattle.schedule.specs.Rule.{AllHold}
 use Rattle.schedule.specs.Model.{Model, model, modelForm, limitsRule, activityRule, maskRule, Within}
-use Rattle.schedule.specs.Choice.{Choice, choice, choiceForm, rangeRule, durationRule}
+use Rattle.schedule.specs.Choice.{Choice, choice, choiceThreadRow, choiceForm, rangeRule, durationRule}
 use Rattle.laws.proofs.EfeLaws.{Ordered}
 use Rattle.laws.proofs.FieldLaws.{field-lt}
 
@@ -58,6 +58,6 @@ unfolding choiceForm rangeRule durationRule choice
 choice-says m q b h = record {
   in-range = λ j l. h .1 .1 .1 .1 .0 j 0 l (omega arith);
   duration = λ a l. h .1 .1 .1 .1 .1 .0 a 0 l (omega arith);
-  release-lt = λ j. field-lt q b (7 + 4 * j) 2;
-  period-lt = λ j. field-lt q b (7 + 4 * j + 2) 2;
+  release-lt = λ j. field-lt q b (choiceThreadRow j) 2;
+  period-lt = λ j. field-lt q b (choiceThreadRow j + 2) 2;
 }

@@ -6,8 +6,8 @@ use mathlib.Core.List.{List, _++_}
 use mathlib.Core.Path.{_≡_}
 use lib.ListN.{length, length-append}
 use Rattle.schedule.specs.Bounded.{rows}
-use Rattle.schedule.specs.Fields.{field, bytes, Bytes}
-use Rattle.schedule.specs.Plan.{Plan, plan, planBytes, planLength}
+use Rattle.schedule.specs.Fields.{field, bytes, pair, pairRow, Bytes}
+use Rattle.schedule.specs.Plan.{Plan, plan, planBytes, planLength, planThreadRow, gridAt, tickAt, pairRows}
 use Rattle.laws.proofs.FieldLaws.{length-bytes, bytes-bytes, length-rows, bytes-append, bytes-rows}
 use Rattle.laws.proofs.Parts.{Stands, stands-whole, stands-first, stands-second}
 use Rattle.laws.proofs.Parts.{stands-field, stands-next, stands-row}
@@ -41,18 +41,15 @@ pub record ReadsFrom (p : Plan) (r : List ℕ) : Type 0 where
 abbrev pub ReadsBack : Plan → Type 0
 ReadsBack p = ReadsFrom p (planBytes p)
 
--- the row of two fields of 2 bytes, and the bytes of a plan from each of its parts on
-abbrev pair : (ℕ → ℕ) → (ℕ → ℕ) → ℕ → List ℕ
-pair f g j = bytes 2 (f j) ++ bytes 2 (g j)
-
+-- the bytes of a plan from each of its parts on
 abbrev words : Plan → List ℕ
 words p = rows (p .horizon) (λ t. bytes 4 (p .word t))
 
 abbrev spans : Plan → List ℕ
-spans p = rows (p .activities) (pair (p .start) (p .end)) ++ words p
+spans p = pairRows (p .activities) (p .start) (p .end) ++ words p
 
 abbrev choices : Plan → List ℕ
-choices p = rows (p .threads) (pair (p .release) (p .period)) ++ spans p
+choices p = pairRows (p .threads) (p .release) (p .period) ++ spans p
 
 abbrev fromHorizon : Plan → List ℕ
 fromHorizon p = bytes 2 (p .horizon) ++ choices p
@@ -66,10 +63,13 @@ fromThreads p = bytes 1 (p .threads) ++ fromActivities p
 abbrev fromVersion : Plan → List ℕ
 fromVersion p = bytes 1 1 ++ fromThreads p
 
-length-pair : (f g : ℕ → ℕ) (j : ℕ) → length (pair f g j) ≡ 4
-length-pair f g j = simp (length-append, length-bytes)
-
 -- ---- how many bytes, and that they are bytes
+
+pub length-pair : (x y : ℕ) → length (pair x y) ≡ 4
+length-pair x y = simp (length-append, length-bytes)
+
+pub length-pairs : (n : ℕ) (f g : ℕ → ℕ) → length (pairRows n f g) ≡ 4 * n
+length-pairs n f g = length-rows 4 n (λ j. pair (f j) (g j)) (λ j _. length-pair (f j) (g j))
 
 pub length-planBytes : (p : Plan) → length (planBytes p) ≡ planLength (p .threads) (p .activities) (p .horizon)
 unfolding planBytes
@@ -77,19 +77,20 @@ length-planBytes p =
     simp (length-append, length-bytes)
     (omega (
       arith,
-      length-rows 4 (p .threads) (pair (p .release) (p .period)) (λ j _. length-pair (p .release) (p .period) j),
-      length-rows 4 (p .activities) (pair (p .start) (p .end)) (λ a _. length-pair (p .start) (p .end) a),
+      length-pairs (p .threads) (p .release) (p .period),
+      length-pairs (p .activities) (p .start) (p .end),
       length-rows 4 (p .horizon) (λ t. bytes 4 (p .word t)) (λ t _. length-bytes 4 (p .word t)),
     ))
 
-bytes-pair : (f g : ℕ → ℕ) (j : ℕ) → Bytes (pair f g j)
-bytes-pair f g j = bytes-append (bytes 2 (f j)) (bytes 2 (g j)) (bytes-bytes 2 (f j)) (bytes-bytes 2 (g j))
+bytes-pair : (x y : ℕ) → Bytes (pair x y)
+bytes-pair x y = bytes-append (bytes 2 x) (bytes 2 y) (bytes-bytes 2 x) (bytes-bytes 2 y)
 
 bytes-field : (k v : ℕ) (c : List ℕ) → Bytes c → Bytes (bytes k v ++ c)
 bytes-field k v c h = bytes-append (bytes k v) c (bytes-bytes k v) h
 
-bytes-pairs : (n : ℕ) (f g : ℕ → ℕ) (c : List ℕ) → Bytes c → Bytes (rows n (pair f g) ++ c)
-bytes-pairs n f g c h = bytes-append (rows n (pair f g)) c (bytes-rows n (pair f g) (λ j _. bytes-pair f g j)) h
+bytes-pairs : (n : ℕ) (f g : ℕ → ℕ) (c : List ℕ) → Bytes c → Bytes (pairRows n f g ++ c)
+bytes-pairs n f g c h =
+    bytes-append (pairRows n f g) c (bytes-rows n (λ j. pair (f j) (g j)) (λ j _. bytes-pair (f j) (g j))) h
 
 pub bytes-planBytes : (p : Plan) → Bytes (planBytes p)
 unfolding planBytes
@@ -106,24 +107,24 @@ bytes-planBytes p =
 -- ---- the round trip
 
 -- two runs of fields in rows of 4 bytes that stand at a position, and what stands behind them
-stands-pairs : (s : List ℕ) (at n : ℕ) (f g : ℕ → ℕ) (c : List ℕ) → Stands s at (rows n (pair f g) ++ c)
+stands-pairs : (s : List ℕ) (at n : ℕ) (f g : ℕ → ℕ) (c : List ℕ) → Stands s at (pairRows n f g ++ c)
     → ((j : ℕ) → j < n → f j < 65536) → ((j : ℕ) → j < n → g j < 65536)
-    → ((j : ℕ) → j < n → field s (at + 4 * j) 2 ≡ f j) × ((j : ℕ) → j < n → field s (at + 4 * j + 2) 2 ≡ g j)
-    × Stands s (at + 4 * n) c
+    → ((j : ℕ) → j < n → field s (pairRow at j) 2 ≡ f j) × ((j : ℕ) → j < n → field s (pairRow at j + 2) 2 ≡ g j)
+    × Stands s (pairRow at n) c
 stands-pairs s at n f g c h small small′ = (λ j l. both j l .0, λ j l. both j l .1, behind)
   where
-    row : (j : ℕ) → j < n → Stands s (at + 4 * j) (pair f g j)
-    row = stands-row s at 4 n (pair f g) (λ j _. length-pair f g j) (stands-first s at (rows n (pair f g)) c h)
+    row : (j : ℕ) → j < n → Stands s (pairRow at j) (pair (f j) (g j))
+    row =
+        stands-row s at 4 n (λ j. pair (f j) (g j)) (λ j _. length-pair (f j) (g j))
+        (stands-first s at (pairRows n f g) c h)
 
-    both : (j : ℕ) → j < n → (field s (at + 4 * j) 2 ≡ f j) × (field s (at + 4 * j + 2) 2 ≡ g j)
+    both : (j : ℕ) → j < n → (field s (pairRow at j) 2 ≡ f j) × (field s (pairRow at j + 2) 2 ≡ g j)
     both j l =
-        let one = stands-next s (at + 4 * j) 2 (f j) (bytes 2 (g j)) (row j l) (small j l) in
-        (one .0, stands-field s (at + 4 * j + 2) 2 (g j) (one .1) (small′ j l))
+        let one = stands-next s (pairRow at j) 2 (f j) (bytes 2 (g j)) (row j l) (small j l) in
+        (one .0, stands-field s (pairRow at j + 2) 2 (g j) (one .1) (small′ j l))
 
-    behind : Stands s (at + 4 * n) c
-    behind =
-        stands-second s at (rows n (pair f g)) c h (4 * n)
-        (length-rows 4 n (pair f g) (λ j _. length-pair f g j))
+    behind : Stands s (pairRow at n) c
+    behind = stands-second s at (pairRows n f g) c h (4 * n) (length-pairs n f g)
 
 pub reads-from : (p : Plan) → Fits p → (r : List ℕ) → Stands r 0 (planBytes p) → ReadsFrom p r
 unfolding planBytes plan
@@ -137,9 +138,8 @@ reads-from p fits r stands =
     let (activities, h₇) = stands-next r 6 1 m (fromHorizon p) h₆ (fits .activities) in
     let (horizon, h₉) = stands-next r 7 2 H (choices p) h₇ (fits .horizon) in
     let (release, period, hs) = stands-pairs r 9 n (p .release) (p .period) (spans p) h₉ (fits .release) (fits .period) in
-    let at : ℕ = 9 + 4 * n in
-    let (start, end, hw) = stands-pairs r at m (p .start) (p .end) (words p) hs (fits .start) (fits .end) in
-    let row = stands-row r (at + 4 * m) 4 H (λ t. bytes 4 (p .word t)) (λ t _. length-bytes 4 (p .word t)) hw in
+    let (start, end, hw) = stands-pairs r (planThreadRow n) m (p .start) (p .end) (words p) hs (fits .start) (fits .end) in
+    let row = stands-row r (gridAt n m) 4 H (λ t. bytes 4 (p .word t)) (λ t _. length-bytes 4 (p .word t)) hw in
     record {
       length = length;
       version = version;
@@ -151,7 +151,7 @@ reads-from p fits r stands =
       start = λ a l. rw threads (start a l);
       end = λ a l. rw threads (end a l);
       word = λ t l. rw (threads, activities)
-          (stands-field r (at + 4 * m + 4 * t) 4 (p .word t) (row t l) (fits .word t l));
+          (stands-field r (gridAt n m + tickAt t) 4 (p .word t) (row t l) (fits .word t l));
     }
 
 pub reads-back : (p : Plan) → Fits p → ReadsBack p

@@ -9,11 +9,12 @@ use mathlib.Core.Path.{_≡_, sym, _∙_}
 use lib.Dec.{T}
 use lib.ListN.{length}
 use lib.Seq.{ext-getD}
-use Rattle.schedule.specs.Fields.{field, Bytes}
+use Rattle.schedule.specs.Fields.{field, pairRow, Bytes}
 use Rattle.schedule.specs.Rule.{AllHold}
 use Rattle.schedule.specs.Model.{Model, lengthRule, versionRule, formulaRule, Within}
 use Rattle.schedule.specs.Choice.{rangeRule}
-use Rattle.schedule.specs.Plan.{Plan, plan, active, planBytes, planLength, planForm, planCounts, wordRule}
+use Rattle.schedule.specs.Plan.{Plan, plan, active, planBytes, planForm, planCounts, wordRule}
+use Rattle.schedule.specs.Plan.{planThreadRow, gridAt, tickAt, planLength}
 use Rattle.laws.proofs.Parts.{Alike, alike-join, alike-field, alike-rows}
 use Rattle.laws.proofs.PlanBytes.{Fits, ReadsBack, reads-back, length-planBytes}
 
@@ -119,8 +120,8 @@ parts-determine m r r′ b b′ h h′ same =
     alike : (at size : ℕ) → field r at size ≡ field r′ at size → Alike r r′ at (at + size)
     alike = alike-field r r′ b b′
 
-    pairs : (at n : ℕ) → ((j : ℕ) → j < n → field r (at + 4 * j) 2 ≡ field r′ (at + 4 * j) 2)
-        → ((j : ℕ) → j < n → field r (at + 4 * j + 2) 2 ≡ field r′ (at + 4 * j + 2) 2) → Alike r r′ at (at + 4 * n)
+    pairs : (at n : ℕ) → ((j : ℕ) → j < n → field r (pairRow at j) 2 ≡ field r′ (pairRow at j) 2)
+        → ((j : ℕ) → j < n → field r (pairRow at j + 2) 2 ≡ field r′ (pairRow at j + 2) 2) → Alike r r′ at (pairRow at n)
     pairs at = alike-pairs r r′ b b′ at 2 2
 
     header : Alike r r′ 0 9
@@ -131,21 +132,21 @@ parts-determine m r r′ b b′ h h′ same =
         (alike-join r r′ 6 7 9 (alike 6 1 (w .activities ∙ sym (w′ .activities)))
         (alike 7 2 (w .horizon ∙ sym (w′ .horizon))))))
 
-    spans : Alike r r′ (9 + 4 * n) (9 + 4 * n + 4 * k)
+    spans : Alike r r′ (planThreadRow n) (gridAt n k)
     spans =
-        pairs (9 + 4 * n) k (λ a l. rw (w .threads, w′ .threads) at (same .start a l))
+        pairs (planThreadRow n) k (λ a l. rw (w .threads, w′ .threads) at (same .start a l))
         (λ a l. rw (w .threads, w′ .threads) at (same .end a l))
 
-    words : Alike r r′ (9 + 4 * n + 4 * k) (planLength n k (m .horizon))
+    words : Alike r r′ (gridAt n k) (planLength n k (m .horizon))
     words =
-        alike-rows r r′ (9 + 4 * n + 4 * k) 4 (m .horizon) (λ t l. alike (9 + 4 * n + 4 * k + 4 * t) 4
+        alike-rows r r′ (gridAt n k) 4 (m .horizon) (λ t l. alike (gridAt n k + tickAt t) 4
         (rw (w .threads, w′ .threads, w .activities, w′ .activities) at (same .word t l)))
 
     everywhere : Alike r r′ 0 (planLength n k (m .horizon))
     everywhere =
         alike-join r r′ 0 9 (planLength n k (m .horizon)) header
-        (alike-join r r′ 9 (9 + 4 * n) (planLength n k (m .horizon)) (pairs 9 n (same .release) (same .period))
-        (alike-join r r′ (9 + 4 * n) (9 + 4 * n + 4 * k) (planLength n k (m .horizon)) spans words))
+        (alike-join r r′ 9 (planThreadRow n) (planLength n k (m .horizon)) (pairs 9 n (same .release) (same .period))
+        (alike-join r r′ (planThreadRow n) (gridAt n k) (planLength n k (m .horizon)) spans words))
 
 -- ---- the bytes written from parts
 

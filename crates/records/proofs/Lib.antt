@@ -3,3 +3,4 @@ pub mod Reading
 pub mod RowTests
 pub mod Forms
 pub mod Injective
+pub mod WriteLaws

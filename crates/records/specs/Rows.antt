@@ -1,18 +1,19 @@
 -- The rows of the three records as the readers hand them out.
 -- Assumes nothing.
-use Prim.Native.Nat.{ℕ, _+_, _*_}
+use Prim.Native.Nat.{ℕ, _+_}
 use mathlib.Core.Bool.{Bool, _&&_, not}
 use mathlib.Core.List.{List}
 use lib.Dec.{eqb, leb, ltb}
 use Rattle.schedule.specs.Bounded.{all, bit, _⇒_}
 use Rattle.schedule.specs.Model.{Model, within}
-use Rattle.schedule.specs.Fields.{field}
+use Rattle.schedule.specs.Fields.{field, pairRow}
 use Rattle.schedule.specs.Rule.{Rule}
 use Rattle.schedule.specs.Choice.{rangeRule}
 use Rattle.schedule.specs.Plan.{Plan}
 use Rattle.records.specs.declared.model.Sizes.{Sizes}
 use Rattle.records.specs.declared.model.ThreadRow.{ThreadRow}
 use Rattle.records.specs.declared.model.ActivityRow.{ActivityRow}
+use Rattle.records.specs.declared.plan.PlanSizes.{PlanSizes}
 use Rattle.records.specs.declared.plan.Timing.{Timing}
 use Rattle.records.specs.declared.plan.Span.{Span}
 
@@ -40,19 +41,23 @@ activityRowOf m a = record {
   «data_mask» = m .data-mask a;
 }
 
--- a thread's release and period, and an activity's start and end
+-- a thread's release and period
 unfoldable pub timing : ℕ → ℕ → Timing
 timing release period = record { release = release; period = period }
 
 -- release and period of thread j in rows of 4 bytes that begin at a position
 abbrev pub releaseAt : List ℕ → ℕ → ℕ → ℕ
-releaseAt s at j = field s (at + 4 * j) 2
+releaseAt s at j = field s (pairRow at j) 2
 
 abbrev pub periodAt : List ℕ → ℕ → ℕ → ℕ
-periodAt s at j = field s (at + 4 * j + 2) 2
+periodAt s at j = field s (pairRow at j + 2) 2
 
 unfoldable pub timingAt : List ℕ → ℕ → ℕ → Timing
 timingAt s at j = timing (releaseAt s at j) (periodAt s at j)
+
+-- the counts at the head of a plan, and an activity's start and end
+unfoldable pub planSizesOf : Plan → PlanSizes
+planSizesOf p = record { threads = p .threads; activities = p .activities; horizon = p .horizon }
 
 unfoldable pub spanOf : Plan → ℕ → Span
 spanOf p a = record { start = p .start a; end = p .end a }

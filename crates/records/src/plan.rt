@@ -3,6 +3,7 @@
 use crate::Pass;
 use crate::form;
 use crate::form::HeadRead;
+use crate::grid;
 use crate::model;
 use crate::model::Activity;
 use crate::model::Thread;
@@ -10,13 +11,25 @@ use crate::timings;
 use schedule::FormRefusal;
 use schedule::Refusal;
 ghost use mathlib.Core.Path.{_≡_};
+ghost use Prim.Native.Nat.{_+_, _≤_, _<_};
+ghost use lib.ListN.{length};
+ghost use Rattle.schedule.specs.Fields.{pair};
 ghost use Rattle.schedule.specs.Rule.{break, firstBreak};
 ghost use Rattle.schedule.specs.Model.{model};
-ghost use Rattle.schedule.specs.Plan.{plan, planForm, planLength, wordRule};
+ghost use Rattle.schedule.specs.Plan.{plan, planForm, planThreadRow, planActivityRow, gridAt, planLength, wordRule};
+ghost use Rattle.fields.specs.Put.{put};
 ghost use Rattle.schedule.specs.Answers.{answer};
-ghost use Rattle.records.specs.Rows.{sizesOf, timing, spanOf, horizonHolds};
+ghost use Rattle.records.specs.Rows.{sizesOf, planSizesOf, timing, spanOf, horizonHolds};
+ghost use Rattle.records.specs.Writes.{headBytes};
 ghost use Rattle.records.specs.Reads.{rowAnswer, refusalOf, passNumbers, headReadNumbers, planHead};
 ghost use Rattle.records.specs.Reads.{wordReadNumbers, planReadNumbers};
+
+// The counts at the head of a plan.
+pub struct PlanSizes {
+    pub threads: u8,
+    pub activities: u8,
+    pub horizon: u16,
+}
 
 // A thread's row.
 pub struct Timing {
@@ -28,6 +41,42 @@ pub struct Timing {
 pub struct Span {
     pub start: u16,
     pub end: u16,
+}
+
+// ---- where the parts stand
+
+// Activity row a, behind the rows of that many threads.
+fn activity_at(threads: u8, a: u8) -> usize
+    ensures { λ x. ⌜ x ≡ planActivityRow threads a ⌝ }
+{
+    timings::row_at(9, threads) + 4 * (a as usize)
+}
+
+// The grid, behind the rows.
+pub fn grid_at(threads: u8, activities: u8) -> usize
+    ensures { λ x. ⌜ x ≡ gridAt threads activities ⌝ }
+{
+    activity_at(threads, activities)
+}
+
+// "Length 9 + 4n + 4m + 4H"
+pub fn length(threads: u8, activities: u8, horizon: u16) -> u32
+    ensures { λ x. ⌜ x ≡ planLength threads activities horizon ⌝ }
+{
+    (grid_at(threads, activities) + grid::tick_at(horizon as usize)) as u32
+}
+
+// ---- reading
+
+// The counts, of any bytes.
+pub fn counts(r: &[u8]) -> PlanSizes
+    ensures { λ x. ⌜ x ≡ planSizesOf (plan (now (r .entry))) ⌝ }
+{
+    PlanSizes {
+        threads: fields::byte(r, 5),
+        activities: fields::byte(r, 6),
+        horizon: fields::be16(r, 7),
+    }
 }
 
 // The row of an activity's thread in a plan, of any bytes.
@@ -50,7 +99,7 @@ pub fn activity_row(r: &[u8], a: Activity) -> Span
 {
     let number = a.0;
     let threads = fields::byte(r, 5);
-    let at = 9 + 4 * (threads as usize) + 4 * (number as usize);
+    let at = activity_at(threads, number);
     Span {
         start: fields::be16(r, at),
         end: fields::be16(r, at + 2),
@@ -61,12 +110,65 @@ pub fn activity_row(r: &[u8], a: Activity) -> Span
 pub fn word(r: &[u8], t: u16) -> u32
     ensures { λ x. ⌜ x ≡ plan (now (r .entry)) .word t ⌝ }
 {
-    let threads = fields::byte(r, 5);
-    let activities = fields::byte(r, 6);
-    fields::be32(
-        r,
-        9 + 4 * (threads as usize) + 4 * (activities as usize) + 4 * (t as usize),
-    )
+    let sizes = counts(r);
+    let at = grid_at(sizes.threads, sizes.activities);
+    fields::be32(r, at + grid::tick_at(t as usize))
+}
+
+// ---- writing, each part whole or not at all
+
+// A row of two fields of 2 bytes, for which there is room.
+fn fill_pair(out: &mut [u8], at: usize, first: u16, second: u16)
+    requires { ⌜ at + 4 ≤ length (now out) ⌝ }
+    ensures { λ _. ⌜ now (out .exit) ≡ put at (pair first second) (now (out .entry)) ⌝ }
+{
+    fields::put16(out, at, first);
+    fields::put16(out, at + 2, second);
+}
+
+fn put_pair(out: &mut [u8], at: usize, first: u16, second: u16)
+    requires { ⌜ at < 65536 ⌝ }
+    ensures { λ _. ⌜ now (out .exit) ≡ put at (pair first second) (now (out .entry)) ⌝ }
+{
+    if at + 4 <= out.len() {
+        fill_pair(out, at, first, second);
+    }
+}
+
+// "n, m (1 each), H (2)", behind the length and the version; there is room for them.
+fn fill_head(out: &mut [u8], threads: u8, activities: u8, horizon: u16)
+    requires { ⌜ 9 ≤ length (now out) ⌝ }
+    ensures { λ _. ⌜ now (out .exit) ≡ put 0 (headBytes threads activities horizon) (now (out .entry)) ⌝ }
+{
+    fields::put32(out, 0, length(threads, activities, horizon));
+    fields::put8(out, 4, 1);
+    fields::put8(out, 5, threads);
+    fields::put8(out, 6, activities);
+    fields::put16(out, 7, horizon);
+}
+
+pub fn put_head(out: &mut [u8], threads: u8, activities: u8, horizon: u16)
+    ensures { λ _. ⌜ now (out .exit) ≡ put 0 (headBytes threads activities horizon) (now (out .entry)) ⌝ }
+{
+    if 9 <= out.len() {
+        fill_head(out, threads, activities, horizon);
+    }
+}
+
+// Thread row j: "release, period (2 each)".
+pub fn put_thread_row(out: &mut [u8], j: u8, row: Timing)
+    ensures { λ _. ⌜ now (out .exit) ≡ put (planThreadRow j) (pair (row .release) (row .period)) (now (out .entry)) ⌝ }
+{
+    put_pair(out, timings::row_at(9, j), row.release, row.period);
+}
+
+// Activity row a, behind the rows of that many threads: "start, end (2 each)".
+pub fn put_activity_row(out: &mut [u8], threads: u8, a: Activity, row: Span)
+    ensures { λ _. ⌜ now (out .exit)
+        ≡ put (planActivityRow threads (a .0)) (pair (row .start) (row .end)) (now (out .entry)) ⌝ }
+{
+    let number = a.0;
+    put_pair(out, activity_at(threads, number), row.start, row.end);
 }
 
 // ---- rules 8 to 11
@@ -81,15 +183,13 @@ fn counts_hold(s: &[u8], r: &[u8]) -> bool
     fields::be16(r, 7) == fields::be16(s, 8)
 }
 
-// "Length 9 + 4n + 4m + 4H"
+// The length that the counts give.
 fn formula(r: &[u8]) -> u32
     ensures { λ x. ⌜ x ≡ planLength (plan (now (r .entry)) .threads) (plan (now (r .entry)) .activities)
         (plan (now (r .entry)) .horizon) ⌝ }
 {
-    9
-        + 4 * (fields::byte(r, 5) as u32)
-        + 4 * (fields::byte(r, 6) as u32)
-        + 4 * (fields::be16(r, 7) as u32)
+    let sizes = counts(r);
+    length(sizes.threads, sizes.activities, sizes.horizon)
 }
 
 // Rules 8 to 11, "in list order".

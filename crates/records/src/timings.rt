@@ -7,15 +7,23 @@ use schedule::FormRefusal;
 use schedule::Refusal;
 ghost use mathlib.Core.Path.{_≡_};
 ghost use Rattle.schedule.specs.Rule.{break};
+ghost use Rattle.schedule.specs.Fields.{pairRow};
 ghost use Rattle.schedule.specs.Model.{model};
 ghost use Rattle.records.specs.Rows.{timingAt, timingRule};
 ghost use Rattle.records.specs.Reads.{rowAnswer, refusalOf, passNumbers, timingReadNumbers};
+
+// Where row j stands in rows that begin at a position.
+pub(crate) fn row_at(first: u8, j: u8) -> usize
+    ensures { λ x. ⌜ x ≡ pairRow first j ⌝ }
+{
+    (first as usize) + 4 * (j as usize)
+}
 
 // Row j of the rows that begin at a position, of any bytes.
 pub(crate) fn row(r: &[u8], first: u8, j: u8) -> Timing
     ensures { λ x. ⌜ x ≡ timingAt (now (r .entry)) first j ⌝ }
 {
-    let at = (first as usize) + 4 * (j as usize);
+    let at = row_at(first, j);
     Timing {
         release: fields::be16(r, at),
         period: fields::be16(r, at + 2),

@@ -1,6 +1,6 @@
 -- The grid from tick to tick: the tables hold the machine's state, and the words written so far are the machine's.
 -- Assumes nothing.
-use Prim.Native.Nat.{ℕ, _+_, _*_, _≤_, _<_}
+use Prim.Native.Nat.{ℕ, _+_, _≤_, _<_}
 use native.Mathlib.Numerals.{add-one}
 use native.Mathlib.Omega.{arith}
 use mathlib.Core.Bool.{_&&_, _||_}
@@ -12,6 +12,7 @@ use Rattle.schedule.specs.Bounded.{rows}
 use Rattle.schedule.specs.Fields.{bytes}
 use Rattle.schedule.specs.Model.{Model, priorityOf}
 use Rattle.schedule.specs.Choice.{Choice}
+use Rattle.schedule.specs.Plan.{tickAt}
 use Rattle.schedule.specs.Machine.{before, stateAt, machineWord, machineEnd, machineOwes}
 use Rattle.laws.proofs.FieldLaws.{length-bytes, length-rows}
 use Rattle.laws.proofs.Words.{wordOf-ext}
@@ -32,7 +33,7 @@ befores-are m priorities h a l =
     ap₂ (λ (x y : ℕ). ltb x y || (eqb y x && ltb b a)) (h a l) (h b k))
 
 -- the words of the first k ticks take 4 bytes each
-pub length-grid : (m : Model) (q : Choice) (k : ℕ) → length (gridBytes m q k) ≡ 4 * k
+pub length-grid : (m : Model) (q : Choice) (k : ℕ) → length (gridBytes m q k) ≡ tickAt k
 unfolding gridBytes
 length-grid m q k = length-rows 4 k _ (λ t _. length-bytes 4 (machineWord m (q .release) (q .duration) t))
 
@@ -44,7 +45,7 @@ pub record Running (m : Model) (q : Choice) (n cores horizon : ℕ) (releases de
   pub horizon-is : horizon ≡ m .horizon
   pub tabled : Tabled m (q .release) releases delays temporal by-data befores
   pub narrow : horizon < 65536
-  pub room : 4 * horizon ≤ length grid₀
+  pub room : tickAt horizon ≤ length grid₀
   pub so-far : t ≤ horizon
   pub sized : (length owed ≡ 32) × (length ends ≡ 32)
   pub keeps : Keeps m (stateAt m (q .release) (q .duration) t) owed ends
@@ -52,7 +53,7 @@ pub record Running (m : Model) (q : Choice) (n cores horizon : ℕ) (releases de
 
 pub running-start : (m : Model) (q : Choice) (n cores horizon : ℕ) (releases delays temporal by-data priorities befores : List ℕ)
     (grid owed ends : List ℕ) → n ≡ m .activities → cores ≡ m .cores → horizon ≡ m .horizon → n ≤ 32 → horizon < 65536
-    → 4 * horizon ≤ length grid
+    → tickAt horizon ≤ length grid
     → Filled n (entryOf Column.Release m q) releases → Filled n (entryOf Column.Delay m q) delays
     → Filled n (entryOf Column.Temporal m q) temporal → Filled n (entryOf Column.ByData m q) by-data
     → Filled n (entryOf Column.Priority m q) priorities → Filled n (beforesFrom n priorities) befores
@@ -91,7 +92,7 @@ module _ (m : Model) (q : Choice) (n cores horizon : ℕ) (releases delays tempo
   pub running-next : (word : ℕ) (grid′ owed′ ends′ : List ℕ) → Masked m → t < horizon
       → word ≡ tickWord n cores releases delays temporal by-data befores owed ends t
       → Stepped n word t owed ends owed′ ends′
-      → grid′ ≡ put (4 * t) (bytes 4 word) grid
+      → grid′ ≡ put (tickAt t) (bytes 4 word) grid
       → Running m q n cores horizon releases delays temporal by-data befores grid₀ grid′ owed′ ends′ (t + 1)
   unfolding gridBytes rows machineWord
   running-next word grid′ owed′ ends′ masked l ew stepped eg =
@@ -108,8 +109,8 @@ module _ (m : Model) (q : Choice) (n cores horizon : ℕ) (releases delays tempo
             (subst (λ (k : ℕ). Stepped k word t owed ends owed′ ends′) (h .n-is) stepped);
         written =
             eg
-            ∙ ap₂ (λ (g : List ℕ) (w : ℕ). put (4 * t) (bytes 4 w) g) (h .written) right
-            ∙ put-next 0 (4 * t) (gridBytes m q t) (bytes 4 (machineWord m (q .release) (q .duration) t)) grid₀
+            ∙ ap₂ (λ (g : List ℕ) (w : ℕ). put (tickAt t) (bytes 4 w) g) (h .written) right
+            ∙ put-next 0 (tickAt t) (gridBytes m q t) (bytes 4 (machineWord m (q .release) (q .duration) t)) grid₀
             (omega (arith, length-grid m q t))
             (omega (arith, length-bytes 4 (machineWord m (q .release) (q .duration) t), h .room))
             ∙ ap (λ (k : ℕ). put 0 (gridBytes m q k) grid₀) (sym (add-one t));

@@ -10,9 +10,8 @@ use mathlib.Core.Logic.{_⊎_, inl, inr, ⊎-elim}
 use mathlib.Core.Option.{Option, some, none}
 use mathlib.Core.Path.{_≡_, refl, sym, subst, ap, ap₂, _∙_}
 use lib.Dec.{T, eqb, leb, ltb}
-use lib.ListN.{length, getD, take, drop, replicate, length-append}
+use lib.ListN.{length, getD, drop, replicate, length-append}
 use lib.Pow.{pow-mono}
-use lib.Seq.{drop-at, length-take-le}
 use borrow.Author.Tests.{lt-ltb, le-ltb, eq-eqb, ne-eqb}
 use Rattle.schedule.specs.Bounded.{lowest, bit, ones, least, _⇒_}
 use Rattle.schedule.specs.Fields.{Bytes}
@@ -23,7 +22,7 @@ use Rattle.schedule.specs.declared.RunVerdict.{RunVerdict}
 use Rattle.schedule.specs.Numbers.{refusalNumbers, figureNumbers, runNumbers}
 use Rattle.schedule.specs.Model.{Model, model, modelForm, limitsRule, maskRule}
 use Rattle.schedule.specs.Choice.{Choice, choice, choiceForm}
-use Rattle.schedule.specs.Plan.{planBytes}
+use Rattle.schedule.specs.Plan.{planBytes, pairRows, tickAt, wordIn}
 use Rattle.schedule.specs.Machine.{owes, endOf, initial, stateAt, machineWord, machineStart, machineEnd}
 use Rattle.schedule.specs.Checks.{deadlineRule}
 use Rattle.schedule.specs.Answers.{Answer, accepted, refused, answer, figures, Written, machinePlan, owedRule, runRules}
@@ -31,25 +30,26 @@ use Rattle.schedule.specs.Answers.{lengthNeeded, runChecks, outcome, runAnswer,
 use Rattle.laws.proofs.Tests.{T-not}
 use Rattle.laws.proofs.Counting.{decT}
 use Rattle.laws.proofs.Lowest.{Lowest, lowest-is}
-use Rattle.laws.proofs.FieldLaws.{length-bytes, field-lt}
+use Rattle.laws.proofs.FieldLaws.{length-bytes, field-lt, field-drop}
 use Rattle.laws.proofs.Parts.{Stands, stands-field, stands-row}
 use Rattle.laws.proofs.RowLaws.{refusalAt, ClearTo, clear-end, clear-stop, row-clear, row-broken}
 use Rattle.laws.proofs.Sums.{total-ext, greatest-ext}
 use Rattle.laws.proofs.MachineLaws.{end-next, word-lt, getD-table}
-use Rattle.laws.proofs.PlanBytes.{length-planBytes}
+use Rattle.laws.proofs.PlanBytes.{length-pairs, length-planBytes}
 use Rattle.laws.proofs.VerdictLaws.{written}
 use Rattle.laws.proofs.FirstBreak.{none-iff, some-iff, append-none, append-some, rule-stops, rule-goes-on}
 use Rattle.laws.proofs.Sound.{modelForm-sound, runChecks-sound, runRules-sound}
 use Rattle.laws.proofs.RuleNumbers.{first-broken-number, input-numbers, run-numbers}
 use Rattle.fields.specs.Put.{put}
-use Rattle.fields.proofs.PutLaws.{put-at, put-off, put-ext, put-back, put-front, put-fits, length-put}
+use Rattle.fields.proofs.PutLaws.{put-at, put-back, put-front, put-twice, drop-put, length-put}
+use Rattle.records.specs.Writes.{headBytes}
+use Rattle.records.proofs.WriteLaws.{length-head, pairs-ext}
 use Rattle.run.specs.declared.tables.Column.{Column}
 use Rattle.run.specs.Tables.{entryOf, Filled}
 use Rattle.run.specs.Grid.{gridBytes, Runs, Finished}
 use Rattle.run.specs.Outcome.{concluded, Stopped, Standing, Answers}
-use Rattle.run.specs.Front.{pairRows, headBytes, frontBytes, frontIn, gridAt, wordIn, startIn, usageIn, figuresIn, onTime}
+use Rattle.run.specs.Front.{frontBytes, frontIn, gridOf, gridIn, startIn, usageIn, figuresIn, onTime}
 use Rattle.run.proofs.GridLaws.{length-grid}
-use Rattle.run.proofs.PlanLaws.{length-head, length-pairs, pairs-ext}
 
 -- ---- a rule of one column, from the lowest row that breaks it
 
@@ -153,36 +153,37 @@ end-le m release duration (suc t) a l =
 -- ---- the words, starts, ends and figures of the buffer
 
 module _ (m : Model) (q : Choice) (out owed ends : List ℕ) (stands : Standing m q out owed ends) where
-  fits : gridAt m + length (gridBytes m q (m .horizon)) ≤ length out
+  fits : gridOf m + length (gridBytes m q (m .horizon)) ≤ length out
   unfolding lengthNeeded
   fits = omega (arith, length-grid m q (m .horizon), stands .room)
 
-  word-in : (t : ℕ) → t < m .horizon → wordIn out (gridAt m) t ≡ machineWord m (q .release) (q .duration) t
+  word-in : (t : ℕ) → t < m .horizon → wordIn (gridIn m out) t ≡ machineWord m (q .release) (q .duration) t
   unfolding gridBytes
   word-in t l =
-      stands-field out (gridAt m + 4 * t) 4 (machineWord m (q .release) (q .duration) t)
-      (stands-row out (gridAt m) 4 (m .horizon) _ (λ u _. length-bytes 4 (machineWord m (q .release) (q .duration) u)) whole t l)
+      field-drop (gridOf m) out (tickAt t) 4
+      ∙ stands-field out (gridOf m + tickAt t) 4 (machineWord m (q .release) (q .duration) t)
+      (stands-row out (gridOf m) 4 (m .horizon) _ (λ u _. length-bytes 4 (machineWord m (q .release) (q .duration) u)) whole t l)
       (lt-of-lt-of-le (word-lt m (q .release) (q .duration) t) (pow-mono (stands .stopped .runs .few)))
     where
-      whole : Stands out (gridAt m) (gridBytes m q (m .horizon))
+      whole : Stands out (gridOf m) (gridBytes m q (m .horizon))
       whole i k =
-          ap (λ (b : List ℕ). getD b (gridAt m + i) 0) (sym (stands .grid)) ∙ put-at (gridAt m) (gridBytes m q (m .horizon)) out fits i k
+          ap (λ (b : List ℕ). getD b (gridOf m + i) 0) (sym (stands .grid)) ∙ put-at (gridOf m) (gridBytes m q (m .horizon)) out fits i k
 
-  start-in : (a : ℕ) → startIn out (gridAt m) (m .horizon) a ≡ machineStart m (q .release) (q .duration) a
+  start-in : (a : ℕ) → startIn (gridIn m out) (m .horizon) a ≡ machineStart m (q .release) (q .duration) a
   unfolding startIn machineStart
   start-in a = lowest-ext (m .horizon) _ _ (λ t l. ap (λ (w : ℕ). bit w a) (word-in t l))
 
   pub figures-are : figuresIn m q out ends ≡ figures m (machinePlan m q)
   unfolding figuresIn usageIn figures machinePlan
   figures-are =
-      let u = total-ext (m .horizon) (λ t. ones (wordIn out (gridAt m) t)) (λ t. ones (machineWord m (q .release) (q .duration) t))
+      let u = total-ext (m .horizon) (λ t. ones (wordIn (gridIn m out) t)) (λ t. ones (machineWord m (q .release) (q .duration) t))
       (λ t l. ap ones (word-in t l)) in
       let e = greatest-ext (m .activities) (λ a. getD ends a 0) (machineEnd m (q .release) (q .duration)) (stands .stopped .end-ticks) in
       λ i. record { usage = u i; capacity = m .cores * m .horizon; makespan = e i - least (m .threads) (q .release) }
 
   -- the front and the grid are the plan
   front-plan : frontIn m q out ends ++ gridBytes m q (m .horizon) ≡ planBytes (machinePlan m q)
-  unfolding frontIn frontBytes headBytes pairRows gridBytes planBytes machinePlan
+  unfolding frontIn frontBytes headBytes gridBytes planBytes machinePlan
   front-plan =
       ap (λ (b : List ℕ).
       (headBytes (m .threads) (m .activities) (m .horizon) ++ (pairRows (m .threads) (q .release) (q .period) ++ b))
@@ -198,7 +199,7 @@ module _ (m : Model) (q : Choice) (out owed ends : List ℕ) (stands : Standing 
           ≡ planBytes (machinePlan m q)
       opened = simp append-assoc
 
-  length-front : length (frontIn m q out ends) ≡ gridAt m
+  length-front : length (frontIn m q out ends) ≡ gridOf m
   unfolding frontIn frontBytes
   length-front =
       simp length-append
@@ -206,7 +207,7 @@ module _ (m : Model) (q : Choice) (out owed ends : List ℕ) (stands : Standing 
         arith,
         length-head (m .threads) (m .activities) (m .horizon),
         length-pairs (m .threads) (q .release) (q .period),
-        length-pairs (m .activities) (startIn out (gridAt m) (m .horizon)) (λ a. getD ends a 0),
+        length-pairs (m .activities) (startIn (gridIn m out) (m .horizon)) (λ a. getD ends a 0),
       ))
 
   -- the front written before the grid leaves the plan and what stood behind it
@@ -215,7 +216,7 @@ module _ (m : Model) (q : Choice) (out owed ends : List ℕ) (stands : Standing 
   plan-written =
       let front : List ℕ = frontIn m q out ends in
       let grid : List ℕ = gridBytes m q (m .horizon) in
-      let behind : 0 + length front ≡ gridAt m = omega (arith, length-front) in
+      let behind : 0 + length front ≡ gridOf m = omega (arith, length-front) in
       ap (put 0 front) (sym (stands .grid) ∙ ap (λ (k : ℕ). put k grid out) (sym behind))
       ∙ put-back 0 front grid out (omega (arith, length-append front grid, length-front, fits))
       ∙ put-front (front ++ grid) out (omega (arith, length-append front grid, length-front, fits))
@@ -232,34 +233,22 @@ module _ (m : Model) (q : Choice) (out owed ends : List ℕ) (stands : Standing 
         stands .stopped .runs .short,
       )
 
--- ---- what is put in a place twice, and what stands behind it
-
-put-twice : (at : ℕ) (b l : List ℕ) → at + length b ≤ length l → put at b (put at b l) ≡ put at b l
-put-twice at b l h =
-    put-ext at b l (put at b (put at b l)) h (length-put at b (put at b l) ∙ length-put at b l)
-    (λ i k. put-at at b (put at b l) (omega (arith, length-put at b l)) i k)
-    (λ i o. put-off at b (put at b l) i o ∙ put-off at b l i o)
-
-drop-put : (at n : ℕ) (b l : List ℕ) → n ≡ at + length b → n ≤ length l → drop n (put at b l) ≡ drop n l
-drop-put at n b l e h =
-    ap (drop n) (put-fits at b l (omega arith) ∙ ap (λ (k : ℕ). take at l ++ b ++ drop k l) (sym e))
-    ∙ drop-at (take at l ++ b) (drop n l) n
-    (length-append (take at l) b ∙ ap (λ (k : ℕ). k + length b) (length-take-le at l (omega arith)) ∙ sym e)
+-- ---- the grid that was placed
 
 placed-fits : (m : Model) (q : Choice) (l : List ℕ) → lengthNeeded m ≤ length l
-    → lengthNeeded m ≡ gridAt m + length (gridBytes m q (m .horizon))
+    → lengthNeeded m ≡ gridOf m + length (gridBytes m q (m .horizon))
 unfolding lengthNeeded
 placed-fits m q l h = omega (arith, length-grid m q (m .horizon))
 
--- the grid that was placed stands
+-- it stands
 pub placed-stands : (m : Model) (q : Choice) (l out owed ends : List ℕ) → Runs m → lengthNeeded m ≤ length l
-    → Finished m q (gridAt m) l out owed ends → Standing m q out owed ends
+    → Finished m q (gridOf m) l out owed ends → Standing m q out owed ends
 placed-stands m q l out owed ends runs room p =
     let e = placed-fits m q l room in
     record {
-      room = omega (arith, ap length (p .written), length-put (gridAt m) (gridBytes m q (m .horizon)) l);
-      grid = ap (put (gridAt m) (gridBytes m q (m .horizon))) (p .written)
-          ∙ put-twice (gridAt m) (gridBytes m q (m .horizon)) l (omega arith)
+      room = omega (arith, ap length (p .written), length-put (gridOf m) (gridBytes m q (m .horizon)) l);
+      grid = ap (put (gridOf m) (gridBytes m q (m .horizon))) (p .written)
+          ∙ put-twice (gridOf m) (gridBytes m q (m .horizon)) l (omega arith)
           ∙ sym (p .written);
       stopped = record { runs = runs; owed-ticks = p .owed-ticks; end-ticks = p .end-ticks };
     }
@@ -343,7 +332,7 @@ room-answers m q l x h e =
 
 -- with room, what was concluded of the buffer with the grid holds of the buffer as it was lent
 pub outcome-answers : (m : Model) (q : Choice) (l out out′ owed ends : List ℕ) (r : RunVerdict) → lengthNeeded m ≤ length l
-    → Finished m q (gridAt m) l out owed ends → Answers (concluded m q) m q out out′ r → Answers (outcome m q (length l)) m q l out′ r
+    → Finished m q (gridOf m) l out owed ends → Answers (concluded m q) m q out out′ r → Answers (outcome m q (length l)) m q l out′ r
 unfolding outcome concluded
 outcome-answers m q l out out′ owed ends r h p a =
     let o : outcome m q (length l) ≡ concluded m q = rw (le-ltb (length l) (lengthNeeded m) h) in
@@ -355,7 +344,7 @@ outcome-answers m q l out out′ owed ends r h p a =
     behind : drop (lengthNeeded m) out ≡ drop (lengthNeeded m) l
     behind =
         ap (drop (lengthNeeded m)) (p .written)
-        ∙ drop-put (gridAt m) (lengthNeeded m) (gridBytes m q (m .horizon)) l (placed-fits m q l h) h
+        ∙ drop-put (gridOf m) (lengthNeeded m) (gridBytes m q (m .horizon)) l (placed-fits m q l h) h
 
     same : (o : Option Refusal) → firstBreak (runRules m q) ≡ o
         → bufferAfter (concluded m q) m q out ≡ bufferAfter (concluded m q) m q l

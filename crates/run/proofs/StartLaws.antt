@@ -12,12 +12,13 @@ use lib.Dec.{T}
 use lib.ListN.{length, getD, set, replicate, getD-replicate, length-set}
 use lib.Seq.{getD-set-same, getD-set-other}
 use Rattle.schedule.specs.Bounded.{bit, lowest}
+use Rattle.schedule.specs.Plan.{wordIn}
 use Rattle.bits.specs.WithBit.{withoutBit}
 use Rattle.laws.proofs.Tests.{T-or}
 use Rattle.laws.proofs.Counting.{decT, T-true, T-false}
 use Rattle.bits.proofs.WordLaws.{bit-and, bit-not, bit-or, bit-zero}
 use Rattle.bits.proofs.Apart.{lowest-lt, lowest-set, gone, kept}
-use Rattle.run.specs.Front.{wordIn, startIn, Entered}
+use Rattle.run.specs.Front.{startIn, Entered}
 use Rattle.run.specs.Tables.{Filled}
 use Rattle.run.proofs.MaskLaws.{never, still-within}
 use Rattle.run.proofs.PlanLaws.{Clear, clear-none, clear-more, found-here, found-none}
@@ -127,12 +128,12 @@ seen-next word h t seen w starts starts′ s l fits e entered = record {
         (fresh a la ∙ ap₂ (λ (b d : Bool). b && not d) (T-true (bit w a) z) (T-false (bit seen a) y))
         ∙ found-here h (λ v. bit (word v) a) t (bit w a) l (s .idle a la y) (ap (λ (k : ℕ). bit k a) e) z
 
-pub seen-end : (out : List ℕ) (at h : ℕ) (t seen : ℕ) (starts : List ℕ) → t ≡ h → Seen (wordIn out at) h t seen starts
-    → Filled 32 (startIn out at h) starts
+pub seen-end : (grid : List ℕ) (h : ℕ) (t seen : ℕ) (starts : List ℕ) → t ≡ h → Seen (wordIn grid) h t seen starts
+    → Filled 32 (startIn grid h) starts
 unfolding startIn
-seen-end out at h t seen starts e s = record {
+seen-end grid h t seen starts e s = record {
   sized = s .sized;
   filled = λ a l. ⊎-elim (s .started a l)
-      (λ x. s .unset a l x ∙ sym e ∙ found-none h (λ v. bit (wordIn out at v) a) t (omega arith) (omega arith) (s .idle a l x))
+      (λ x. s .unset a l x ∙ sym e ∙ found-none h (λ v. bit (wordIn grid v) a) t (omega arith) (omega arith) (s .idle a l x))
       (decT (bit seen a));
 }

@@ -13,7 +13,7 @@ use Rattle.schedule.specs.Numbers.{runNumbers}
 use Rattle.schedule.specs.declared.RunVerdict.{RunVerdict}
 use Rattle.fields.specs.Put.{put}
 use Rattle.run.specs.Masks.{Holds}
-use Rattle.run.specs.Front.{gridAt}
+use Rattle.run.specs.Front.{gridOf}
 use Rattle.run.specs.Grid.{gridBytes, Runs}
 
 -- the answer where there is room: 42 and 43, or the length and the figures
@@ -30,13 +30,13 @@ pub record Stopped (m : Model) (q : Choice) (owed ends : List ℕ) : Type 0 wher
 -- The grid stands in the buffer, and the tables hold what the machine leaves.
 pub record Standing (m : Model) (q : Choice) (out owed ends : List ℕ) : Type 0 where
   pub room : lengthNeeded m ≤ length out
-  pub grid : put (gridAt m) (gridBytes m q (m .horizon)) out ≡ out
+  pub grid : put (gridOf m) (gridBytes m q (m .horizon)) out ≡ out
   pub stopped : Stopped m q owed ends
 
 -- There is room for what stands in front of the grid, and the ends fit their fields.
 pub record FrontFits (m : Model) (out ends : List ℕ) : Type 0 where
   pub runs : Runs m
-  pub room : gridAt m ≤ length out
+  pub room : gridOf m ≤ length out
   pub small : (a : ℕ) → a < m .activities → getD ends a 0 < 65536
 
 -- A verdict says an answer, and the buffer is as that answer leaves it.

@@ -15,7 +15,7 @@ ghost use mathlib.Core.Path.{_≡_};
 ghost use mathlib.Core.Bool.{not};
 ghost use Prim.Native.Nat.{_≤_, _<_};
 ghost use lib.Dec.{eqb};
-ghost use lib.ListN.{getD};
+ghost use lib.ListN.{length, getD};
 ghost use Rattle.schedule.specs.Bounded.{lowest, greatest, least};
 ghost use Rattle.schedule.specs.Model.{model};
 ghost use Rattle.schedule.specs.Choice.{choice};
@@ -25,7 +25,7 @@ ghost use Rattle.schedule.specs.Numbers.{figureNumbers, refusalNumbers, runNumb
 ghost use Rattle.records.specs.Reads.{passNumbers, refusalIn};
 ghost use Rattle.run.specs.Grid.{Runs};
 ghost use Rattle.run.specs.Outcome.{Stopped};
-ghost use Rattle.run.specs.Front.{onTime, usageIn, figuresIn};
+ghost use Rattle.run.specs.Front.{gridOf, onTime, usageIn, figuresIn};
 
 // ---- 42 and 43
 
@@ -88,14 +88,14 @@ pub(crate) fn judge(s: &[u8], q: &[u8], owed: &[u32; 32], ends: &[u32; 32]) -> P
 // ---- the figures
 
 // "usage (all ones)", counted from the words of the grid.
-fn usage(out: &[u8], at: usize, h: usize) -> u32
-    requires { ⌜ (at < 65536) × (h < 65536) ⌝ }
-    ensures { λ r. ⌜ r ≡ usageIn (now (out .entry)) at h ⌝ }
+fn usage(grid: &[u8], h: usize) -> u32
+    requires { ⌜ h < 65536 ⌝ }
+    ensures { λ r. ⌜ r ≡ usageIn (now (grid .entry)) h ⌝ }
 {
     let mut sum: u32 = 0;
     let mut t = 0;
     while t < h {
-        sum += bits::ones(fields::be32(out, at + 4 * t));
+        sum += bits::ones(records::grid::word(grid, t));
         t += 1;
     }
     sum
@@ -137,14 +137,15 @@ fn least_release(q: &[u8], n: u8) -> u32
 
 // "usage, c times H, and makespan (greatest end less least release over all threads)"
 pub(crate) fn figures(s: &[u8], q: &[u8], ends: &[u32; 32], out: &[u8]) -> Figures
-    requires { ⌜ Runs (model (now s)) ⌝ }
+    requires { ⌜ Runs (model (now s)) × (gridOf (model (now s)) ≤ length (now out)) ⌝ }
     ensures { λ r. ⌜ figureNumbers r
         ≡ figuresIn (model (now (s .entry))) (choice (now (q .entry))) (now (out .entry)) (now (ends .entry)) ⌝ }
 {
     let sizes = records::model::counts(s);
     let n = sizes.activities as usize;
+    let at = plan::grid_at(s);
     Figures {
-        usage: usage(out, plan::grid_at(s), sizes.horizon as usize),
+        usage: usage(&out[at..], sizes.horizon as usize),
         capacity: (sizes.cores as u32) * (sizes.horizon as u32),
         makespan: less(greatest_end(n, ends), least_release(q, sizes.threads)),
     }

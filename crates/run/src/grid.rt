@@ -3,10 +3,11 @@ use crate::machine;
 use crate::stretches;
 use crate::tables;
 use crate::tables::Column;
-ghost use Prim.Native.Nat.{_*_, _≤_};
+ghost use Prim.Native.Nat.{_≤_};
 ghost use lib.ListN.{length};
 ghost use Rattle.schedule.specs.Model.{model};
 ghost use Rattle.schedule.specs.Choice.{choice};
+ghost use Rattle.schedule.specs.Plan.{tickAt};
 ghost use Rattle.run.specs.Grid.{Runs, Finished};
 
 // What the machine leaves at H: the ticks still owed and the ends, by activity.
@@ -18,7 +19,7 @@ pub(crate) struct Left {
 // "At the beginning t = 0 and each activity owes its chosen duration. .. Then t grows by one; stop at H." Each tick's word
 // is written into the grid.
 pub(crate) fn fill_grid(s: &[u8], q: &[u8], grid: &mut [u8]) -> Left
-    requires { ⌜ Runs (model (now s)) × (4 * model (now s) .horizon ≤ length (now grid)) ⌝ }
+    requires { ⌜ Runs (model (now s)) × (tickAt (model (now s) .horizon) ≤ length (now grid)) ⌝ }
     ensures { λ r. ⌜ Finished (model (now (s .entry))) (choice (now (q .entry))) 0 (now (grid .entry)) (now (grid .exit))
         (r .owed) (r .ends) ⌝ }
 {
@@ -52,7 +53,7 @@ pub(crate) fn fill_grid(s: &[u8], q: &[u8], grid: &mut [u8]) -> Left
             t as u32,
         );
         machine::step(stretch.word, t as u32, &mut owed, &mut ends);
-        fields::put32(grid, 4 * t, stretch.word);
+        records::grid::put_word(grid, t, stretch.word);
         t += 1;
     }
     Left { owed, ends }

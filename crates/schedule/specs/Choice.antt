@@ -5,7 +5,7 @@ use mathlib.Core.Bool.{_&&_}
 use mathlib.Core.List.{List, [], _∷_}
 use mathlib.Core.Path.{_≡_}
 use lib.Dec.{eqb}
-use Rattle.schedule.specs.Fields.{field}
+use Rattle.schedule.specs.Fields.{field, pairRow}
 use Rattle.schedule.specs.Rule.{Rule}
 use Rattle.schedule.specs.Model.{Model, lengthRule, versionRule, formulaRule, Within, within}
 
@@ -21,15 +21,22 @@ pub record Choice : Type 0 where
 abbrev pub choiceLength : ℕ → ℕ → ℕ
 choiceLength n m = 7 + 4 * n + 2 * m
 
+-- a choice's thread rows begin at 7, and its durations follow them
+abbrev pub choiceThreadRow : ℕ → ℕ
+choiceThreadRow j = pairRow 7 j
+
+abbrev pub durationAt : ℕ → ℕ → ℕ
+durationAt n a = choiceThreadRow n + 2 * a
+
 unfoldable pub choice : List ℕ → Choice
 choice q =
     let n : ℕ = field q 5 1 in
     record {
       threads = n;
       activities = field q 6 1;
-      release = λ j. field q (7 + 4 * j) 2;
-      period = λ j. field q (7 + 4 * j + 2) 2;
-      duration = λ a. field q (7 + 4 * n + 2 * a) 2;
+      release = λ j. field q (choiceThreadRow j) 2;
+      period = λ j. field q (choiceThreadRow j + 2) 2;
+      duration = λ a. field q (durationAt n a) 2;
     }
 
 -- 10: its n or m differs from the model's

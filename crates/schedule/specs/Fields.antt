@@ -14,6 +14,13 @@ unfoldable pub bytes : ℕ → ℕ → List ℕ
 bytes zero v = []
 bytes (suc k) v = bytes k (v / 256) ++ (v % 256 ∷ [])
 
+-- a row of two fields of 2 bytes, and where row j of such rows begins that stand from a position on
+abbrev pub pair : ℕ → ℕ → List ℕ
+pair x y = bytes 2 x ++ bytes 2 y
+
+abbrev pub pairRow : ℕ → ℕ → ℕ
+pairRow at j = at + 4 * j
+
 -- a list of numbers is a string of bytes: each is below 256
 abbrev pub Bytes : List ℕ → Type 0
 Bytes s = (i : ℕ) → i < length s → getD s i 0 < 256

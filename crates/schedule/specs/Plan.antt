@@ -1,12 +1,13 @@
 -- The plan record: its bytes, what they mean, rules 8 to 12 and 14, and the bytes written from a plan's parts.
 -- Assumes nothing.
-use Prim.Native.Nat.{ℕ, _+_, _*_, _≤_, _<_}
+use Prim.Native.Nat.{ℕ, _+_, _*_, _/_, _≤_, _<_}
 use mathlib.Core.Bool.{Bool, _&&_, not}
 use mathlib.Core.List.{List, [], _∷_, _++_}
 use mathlib.Core.Path.{_≡_}
 use lib.Dec.{T, eqb, leb}
+use lib.ListN.{length}
 use Rattle.schedule.specs.Bounded.{all, bit, rows, _⇒_}
-use Rattle.schedule.specs.Fields.{field, bytes}
+use Rattle.schedule.specs.Fields.{field, bytes, pair, pairRow}
 use Rattle.schedule.specs.Rule.{Rule}
 use Rattle.schedule.specs.Model.{Model, lengthRule, versionRule, formulaRule}
 use Rattle.schedule.specs.Choice.{rangeRule}
@@ -26,9 +27,30 @@ pub record Plan : Type 0 where
 abbrev pub active : Plan → ℕ → ℕ → Bool
 active p t a = bit (p .word t) a
 
--- "Length 9 + 4n + 4m + 4H"
+-- a plan's thread rows begin at 9, its activity rows follow them, and behind both stands the grid
+abbrev pub planThreadRow : ℕ → ℕ
+planThreadRow j = pairRow 9 j
+
+abbrev pub planActivityRow : ℕ → ℕ → ℕ
+planActivityRow n a = pairRow (planThreadRow n) a
+
+abbrev pub gridAt : ℕ → ℕ → ℕ
+gridAt n m = planActivityRow n m
+
+-- "H words of 4 bytes": where the word of tick t stands in the grid
+abbrev pub tickAt : ℕ → ℕ
+tickAt t = 4 * t
+
+-- "Length 9 + 4n + 4m + 4H": the plan ends where the word of tick H would stand
 abbrev pub planLength : ℕ → ℕ → ℕ → ℕ
-planLength n m H = 9 + 4 * n + 4 * m + 4 * H
+planLength n m H = gridAt n m + tickAt H
+
+-- of a grid by itself, the part behind the rows: the word of tick t, and how many ticks have a whole word
+abbrev pub wordIn : List ℕ → ℕ → ℕ
+wordIn g t = field g (tickAt t) 4
+
+abbrev pub ticksIn : List ℕ → ℕ
+ticksIn g = length g / 4
 
 unfoldable pub plan : List ℕ → Plan
 plan s =
@@ -38,12 +60,16 @@ plan s =
       threads = n;
       activities = m;
       horizon = field s 7 2;
-      release = λ j. field s (9 + 4 * j) 2;
-      period = λ j. field s (9 + 4 * j + 2) 2;
-      start = λ a. field s (9 + 4 * n + 4 * a) 2;
-      end = λ a. field s (9 + 4 * n + 4 * a + 2) 2;
-      word = λ t. field s (9 + 4 * n + 4 * m + 4 * t) 4;
+      release = λ j. field s (planThreadRow j) 2;
+      period = λ j. field s (planThreadRow j + 2) 2;
+      start = λ a. field s (planActivityRow n a) 2;
+      end = λ a. field s (planActivityRow n a + 2) 2;
+      word = λ t. field s (gridAt n m + tickAt t) 4;
     }
+
+-- n rows of two fields: release and period by thread, start and end by activity
+abbrev pub pairRows : ℕ → (ℕ → ℕ) → (ℕ → ℕ) → List ℕ
+pairRows n f g = rows n (λ j. pair (f j) (g j))
 
 -- a plan's bytes, written from its parts
 unfoldable pub planBytes : Plan → List ℕ
@@ -53,8 +79,8 @@ planBytes p =
     ++ (bytes 1 (p .threads)
     ++ (bytes 1 (p .activities)
     ++ (bytes 2 (p .horizon)
-    ++ (rows (p .threads) (λ j. bytes 2 (p .release j) ++ bytes 2 (p .period j))
-    ++ (rows (p .activities) (λ a. bytes 2 (p .start a) ++ bytes 2 (p .end a))
+    ++ (pairRows (p .threads) (p .release) (p .period)
+    ++ (pairRows (p .activities) (p .start) (p .end)
     ++ rows (p .horizon) (λ t. bytes 4 (p .word t))))))))
 
 -- 10: its n, m or H differs from the model's

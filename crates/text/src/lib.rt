@@ -96,7 +96,10 @@ fn ticks(answer: RunVerdict, plan: &[u8]) -> u32
     ensures { λ r. ⌜ (r ≡ ticksOf (runNumbers answer) (now (plan .entry))) × (r < 65536) ⌝ }
 {
     match answer {
-        RunVerdict::Accepted(_) => fields::be16(plan, 7) as u32,
+        RunVerdict::Accepted(_) => {
+            let sizes = records::plan::counts(plan);
+            sizes.horizon as u32
+        }
         RunVerdict::Refused(_) => 0,
     }
 }

@@ -1,25 +1,25 @@
 -- The part of a plan that is held: where it stands, and that it gives what the view's definition says at each tick.
 -- Assumes nothing.
-use Prim.Native.Nat.{ℕ, zero, suc, _+_, _-_, _*_, _/_, _≤_, min}
+use Prim.Native.Nat.{ℕ, _-_, _≤_, min}
 use native.Mathlib.Decide.{decLe}
-use native.Mathlib.Nat.{add-assoc, min-eq-left, min-eq-right}
+use native.Mathlib.Nat.{min-eq-left, min-eq-right}
 use native.Mathlib.Omega.{arith}
 use mathlib.Core.Bool.{Bool, cond}
 use mathlib.Core.List.{List, [], _++_}
 use mathlib.Core.Option.{Option, some, none}
 use mathlib.Core.Path.{_≡_, refl, sym, ap, ap₂, _∙_}
 use lib.Dec.{ltb}
-use lib.ListN.{length, getD, take, drop, length-drop, drop-of-length-le}
-use lib.Seq.{take-all, drop-length, getD-drop}
+use lib.ListN.{length, take, drop, length-drop, drop-of-length-le}
+use lib.Seq.{take-all, drop-length}
 use borrow.Author.Tests.{le-ltb}
-use Rattle.schedule.specs.Fields.{field}
 use Rattle.schedule.specs.Rule.{Refusal}
 use Rattle.schedule.specs.Model.{model, modelForm}
-use Rattle.schedule.specs.Plan.{plan, planForm}
+use Rattle.schedule.specs.Plan.{plan, planForm, tickAt, wordIn, ticksIn}
 use Rattle.schedule.specs.Streams.{word, past, orPast, viewRefusal, viewWord}
 use Rattle.laws.proofs.FirstBreak.{none-iff, sound-append, hold-append}
 use Rattle.laws.proofs.Sound.{modelForm-sound, planForm-sound}
 use Rattle.laws.proofs.PlanForm.{WellFormed, form-says}
+use Rattle.laws.proofs.FieldLaws.{field-drop}
 use Rattle.view.specs.Grid.{wordsFrom, heldFrom, heldBytes, viewBytes, gridWord}
 
 -- ---- where the part stands
@@ -58,13 +58,6 @@ held-grid s r g o e f = e ∙ ap (λ (x : Option Refusal). heldBytes x r) f
 
 -- ---- what it gives
 
-field-drop : (j : ℕ) (r : List ℕ) (at k : ℕ) → field (drop j r) at k ≡ field r (j + at) k
-unfolding field
-field-drop j r at zero = refl
-field-drop j r at (suc k) =
-    ap₂ (λ (v b : ℕ). v * 256 + b) (field-drop j r at k)
-    (getD-drop j r (at + k) 0 ∙ ap (λ (i : ℕ). getD r i 0) (sym (add-assoc j at k)))
-
 module _ (s r : List ℕ) where
   well-formed : viewRefusal s r ≡ none → WellFormed (model s) r
   unfolding viewRefusal
@@ -74,21 +67,21 @@ module _ (s r : List ℕ) where
       form-says (model s) r (hold-append (modelForm s) (planForm (model s) r) .0 hold .1)
 
   -- H words of 4 bytes
-  ticks-held : WellFormed (model s) r → length (drop (wordsFrom r) r) / 4 ≡ plan r .horizon
+  ticks-held : WellFormed (model s) r → ticksIn (drop (wordsFrom r) r) ≡ plan r .horizon
   unfolding wordsFrom
   ticks-held w =
       omega (arith, length-drop (wordsFrom r) r, w .length, w .threads, w .activities, w .horizon)
 
-  word-held : (t : ℕ) → field (drop (wordsFrom r) r) (4 * t) 4 ≡ plan r .word t
+  word-held : (t : ℕ) → wordIn (drop (wordsFrom r) r) t ≡ plan r .word t
   unfolding wordsFrom plan
-  word-held t = field-drop (wordsFrom r) r (4 * t) 4
+  word-held t = field-drop (wordsFrom r) r (tickAt t) 4
 
   gives : (t : ℕ) (o : Option Refusal) → viewRefusal s r ≡ o
       → gridWord (heldBytes o r) t ≡ orPast o (cond (ltb t (plan r .horizon)) (word (plan r .word t)) past)
   unfolding gridWord heldBytes
   gives t none e =
       ap₂ (λ (n v : ℕ). cond (ltb t n) (word v) past) (ticks-held (well-formed e)) (word-held t)
-  gives t (some x) e = ap (λ (b : Bool). cond b (word (field [] (4 * t) 4)) past) (le-ltb t 0 (omega arith))
+  gives t (some x) e = ap (λ (b : Bool). cond b (word (wordIn [] t)) past) (le-ltb t 0 (omega arith))
 
   -- the bytes that are held give the words of the view
   pub grid-gives : (t : ℕ) → gridWord (viewBytes s r) t ≡ viewWord s r t

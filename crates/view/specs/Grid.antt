@@ -1,19 +1,18 @@
 -- What a held view keeps of a plan's bytes, and what any bytes give at a tick.
 -- Assumes nothing.
-use Prim.Native.Nat.{ℕ, _+_, _*_, _/_, min}
+use Prim.Native.Nat.{ℕ, min}
 use mathlib.Core.Bool.{cond}
 use mathlib.Core.List.{List, []}
 use mathlib.Core.Option.{Option, some, none}
 use lib.Dec.{ltb}
 use lib.ListN.{length, drop}
-use Rattle.schedule.specs.Fields.{field}
 use Rattle.schedule.specs.Rule.{Refusal}
-use Rattle.schedule.specs.Plan.{plan}
+use Rattle.schedule.specs.Plan.{plan, gridAt, wordIn, ticksIn}
 use Rattle.schedule.specs.Streams.{WordOrPast, word, past, viewRefusal}
 
--- where the words of a plan begin, behind its n thread rows and m activity rows
+-- where the words of a plan begin, by the counts at its head
 unfoldable pub wordsFrom : List ℕ → ℕ
-wordsFrom r = 9 + 4 * plan r .threads + 4 * plan r .activities
+wordsFrom r = gridAt (plan r .threads) (plan r .activities)
 
 -- the bytes held by what the making answered: the plan's words, and none where it is refused
 unfoldable pub heldBytes : Option Refusal → List ℕ → List ℕ
@@ -31,4 +30,4 @@ viewBytes s r = heldBytes (viewRefusal s r) r
 
 -- "it gives the word at a tick, or past for a tick ≥ H", of any bytes that are held
 unfoldable pub gridWord : List ℕ → ℕ → WordOrPast
-gridWord g t = cond (ltb t (length g / 4)) (word (field g (4 * t) 4)) past
+gridWord g t = cond (ltb t (ticksIn g)) (word (wordIn g t)) past

@@ -37,9 +37,8 @@ pub fn refusal(model: &[u8], plan: &[u8]) -> Pass
 fn words_from(plan: &[u8]) -> usize
     ensures { λ r. ⌜ r ≡ wordsFrom (now (plan .entry)) ⌝ }
 {
-    let threads = fields::byte(plan, 5);
-    let activities = fields::byte(plan, 6);
-    9 + 4 * (threads as usize) + 4 * (activities as usize)
+    let sizes = records::plan::counts(plan);
+    records::plan::grid_at(sizes.threads, sizes.activities)
 }
 
 // Where the part that is held begins: the end of the plan where the making is refused.
@@ -62,12 +61,12 @@ fn held(plan: &[u8], made: Pass) -> &[u8]
     &plan[start..]
 }
 
-// The word at a tick, of any part that is held. The tick is compared first, so that its place does not overflow.
+// The word at a tick, of any part that is held.
 fn word_in(grid: &[u8], t: usize) -> WordAt
     ensures { λ r. ⌜ wordNumbers r ≡ gridWord (now (grid .entry)) t ⌝ }
 {
-    if t < grid.len() / 4 {
-        WordAt::Word(fields::be32(grid, 4 * t))
+    if t < records::grid::ticks(grid) {
+        WordAt::Word(records::grid::word(grid, t))
     } else {
         WordAt::Past
     }

@@ -44,7 +44,10 @@ enum-told : tie.Need-enum-told
 enum-told c = search needs
 
 figures-requires : tie.Need-figures-requires
-figures-requires c κs = search needs
+unfolding lengthNeeded
+figures-requires c κs =
+    let stands = c .before .before .before .before .before .before .before .before .pre in
+    (stands .stopped .runs, omega (arith, stands .room))
 
 write-front-requires : tie.Need-write-front-requires
 unfolding lengthNeeded

@@ -5,11 +5,8 @@ use borrow.Author.Needs.{needs}
 use Rattle.records.proofs.timings.row.Statement.{statement}
 use Rattle.records.proofs.timings.row.Tie as tie
 
-mul-at : tie.Need-mul-at
-mul-at c = search needs
-
-add-at : tie.Need-add-at
-add-at c = search needs
+row-at-requires : tie.Need-row-at-requires
+row-at-requires c κs = search needs
 
 be16-requires : tie.Need-be16-requires
 be16-requires c κs = search needs
@@ -22,8 +19,7 @@ be16-requires-2 c κs = search needs
 
 returns : tie.Need-returns
 unfolding timingAt timing
-returns c = λ i. record { release = (c .before .be16 .ensures) i; period = (c .be162 .ensures) i }
+returns c = rw (← c .before .before .row-at .ensures, ← c .before .be16 .ensures, ← c .be162 .ensures)
 
 pub row-spec : {M : Type 1} → statement M
-row-spec =
-    tie.close (tie.spec mul-at add-at be16-requires add-be16 be16-requires-2 returns)
+row-spec = tie.close (tie.spec row-at-requires be16-requires add-be16 be16-requires-2 returns)

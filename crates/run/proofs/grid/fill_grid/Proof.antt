@@ -140,14 +140,8 @@ step-requires c κs =
     let l = c11 .loop in
     (omega (arith, l .inv .0 .narrow, c10 .loop-test .taken), l .inv .0 .sized .0, l .inv .0 .sized .1)
 
-mul-put32 : tie.Need-mul-put32 Inv-loop μ-loop
-mul-put32 c =
-    let c12 = c .before .before .before .before .before .before .before .before .before .before .before .before in
-    let c13 = c12 .before in
-    omega (arith, c13 .loop .inv .0 .narrow, c12 .loop-test .taken)
-
-put32-requires : tie.Need-put32-requires Inv-loop μ-loop
-put32-requires c κs = search needs
+put-word-requires : tie.Need-put-word-requires Inv-loop μ-loop
+put-word-requires c κs = search needs
 
 add-t : tie.Need-add-t Inv-loop μ-loop
 add-t c =
@@ -172,7 +166,7 @@ loop-again c =
     let step = c .before .before .before .before .step .ensures in (
       running-next _ _ _ _ _ _ _ _ _ _ _ (l .grid) (l .owed) (l .ends) (l .t) (l .inv .0) (c7 .at .result .word) _ _ _
           (c32 .pre .0 .masked) (c15 .loop-test .taken)
-          (c7 .at .ensures .0) (stepped-fewer _ _ _ _ _ _ _ (omega (arith, l .inv .0 .n-is, few)) step) (c .before .before .put32 .ensures),
+          (c7 .at .ensures .0) (stepped-fewer _ _ _ _ _ _ _ (omega (arith, l .inv .0 .n-is, few)) step) (c .before .before .put-word .ensures),
       lasts-next _ _ _ _ _ _ _ (l .owed) (l .ends) _ _ (c7 .at .result) (l .t) (omega (arith, l .inv .0 .n-is, few))
           (c7 .at .ensures .1) step,
     )
@@ -206,8 +200,7 @@ fill-grid-spec =
     at-requires
     cast-step
     step-requires
-    mul-put32
-    put32-requires
+    put-word-requires
     add-t
     loop-less
     loop-again

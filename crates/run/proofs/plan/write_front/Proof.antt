@@ -2,72 +2,61 @@
 -- Assumes nothing.
 use native.Mathlib.Omega.{arith}
 use mathlib.Core.Path.{ap}
-use borrow.Author.Needs.{needs}
+use lib.ListN.{drop}
 use Rattle.records.specs.Rows.{sizesOf}
 use Rattle.records.specs.declared.model.Sizes.{Sizes}
 use Rattle.run.specs.Front.{frontIn}
 use Rattle.run.proofs.PlanLaws.{front-says, start-le}
+use borrow.Author.Needs.{needs}
 use Rattle.run.proofs.plan.write_front.Statement.{statement}
 use Rattle.run.proofs.plan.write_front.Tie as tie
 
 counts-requires : tie.Need-counts-requires
 counts-requires c κs = search needs
 
-cast-n : tie.Need-cast-n
-cast-n c = search needs
-
 grid-at-requires : tie.Need-grid-at-requires
 grid-at-requires c κs = search needs
 
-cast-starts : tie.Need-cast-starts
-cast-starts c = search needs
+cast-starts-from : tie.Need-cast-starts-from
+cast-starts-from c = search needs
 
-starts-requires : tie.Need-starts-requires
-unfolding sizesOf
-starts-requires c κs =
-    let c8 = c .before .before .before .before .before .before .before .before in
-    let runs = c8 .pre .runs in (
-      omega (arith, c .before .grid-at .ensures, runs .threads .1, runs .few),
-      omega (arith, c .struct-known2 .given),
-    )
+starts-from-requires : tie.Need-starts-from-requires
+starts-from-requires c κs = search needs
 
-write-head-requires : tie.Need-write-head-requires
-write-head-requires c κs = search needs
+put-head-requires : tie.Need-put-head-requires
+put-head-requires c κs = search needs
 
 write-threads-requires : tie.Need-write-threads-requires
 unfolding sizesOf
 write-threads-requires c κs =
-    let c10 = c .before .before .before .before .before .before .before .before .before .before in
-    let c14 = c10 .before .before .before .before in
-    omega (arith, ap (λ (r : Sizes). r .threads) (c10 .counts .ensures), ap (λ (r : Sizes). r .activities) (c10 .counts .ensures), c14 .pre .room, c .before .before .before .write-head .kept .0)
-
-cast-write-activities : tie.Need-cast-write-activities
-cast-write-activities c = search needs
-
-mul-write-activities : tie.Need-mul-write-activities
-mul-write-activities c = search needs
-
-add-write-activities : tie.Need-add-write-activities
-add-write-activities c = search needs
+    let c3 = c .before .before .before in
+    let c9 = c3 .before .before .before .before .before .before in
+    let en = ap (λ (r : Sizes). r .threads) (c9 .counts .ensures) in
+    let em = ap (λ (r : Sizes). r .activities) (c9 .counts .ensures) in
+    omega (arith, en, em, c9 .before .before .before .before .pre .room, c3 .put-head .kept .0)
 
 write-activities-requires : tie.Need-write-activities-requires
 unfolding sizesOf
 write-activities-requires c κs =
-    let c5 = c .before .before .before .before .before in
-    let c9 = c5 .before .before .before .before in
-    let c11 = c9 .before .before in
-    let c12 = c11 .before in
-    let c13 = c12 .before in
-    let c16 = c13 .before .before .before in
-    let c20 = c16 .before .before .before .before in
-    let r = c16 .counts .result in
-    let en = ap (λ (r : Sizes). r .threads) (c16 .counts .ensures) in
-    let em = ap (λ (r : Sizes). r .activities) (c16 .counts .ensures) in (
-      omega (arith, em, c20 .pre .runs .few),
-      omega (arith, en, em, c20 .pre .room, c9 .write-head .kept .0, c5 .write-threads .kept .1 .1 .0),
+    let c4 = c .before .before .before .before in
+    let c8 = c4 .before .before .before .before in
+    let c10 = c8 .before .before in
+    let c12 = c10 .before .before in
+    let c14 = c12 .before .before in
+    let c18 = c14 .before .before .before .before in
+    let grid = drop (c12 .grid-at .result) (c18 .args .out .now) in
+    let en = ap (λ (r : Sizes). r .threads) (c14 .counts .ensures) in
+    let em = ap (λ (r : Sizes). r .activities) (c14 .counts .ensures) in (
+      omega (arith, em, c18 .pre .runs .few),
+      omega (arith, en, em, c18 .pre .room, c8 .put-head .kept .0, c4 .write-threads .kept .1 .1 .0),
       λ a l. (
-        omega (arith, c11 .starts .ensures .filled a (omega (arith, l, em, c20 .pre .runs .few)), start-le (c20 .args .out .now) (c13 .grid-at .result) (r .horizon) a, c12 .struct-known2 .given),
-        c20 .pre .small a (omega (arith, em)),
+        omega (
+          arith,
+          c10 .starts-from .ensures .filled a (omega (arith, l, em, c18 .pre .runs .few)),
+          start-le grid (c14 .counts .result .horizon) a,
+          c10 .before .struct-known .given,
+        ),
+        c18 .pre .small a (omega (arith, em)),
       ),
     )
 
@@ -77,31 +66,29 @@ same-length c = search needs
 returns : tie.Need-returns
 unfolding sizesOf frontIn
 returns c =
-    let c8 = c .before .before .before .before .before .before .before .before in
-    let c12 = c8 .before .before .before .before in
-    let c14 = c12 .before .before in
-    let c16 = c14 .before .before in
-    let c19 = c16 .before .before .before in
-    let c23 = c19 .before .before .before .before in
-    let x = c23 .args in
-    let whole = front-says _ _ _ _ _ _ _ _ (x .out .now) _ _ _ (omega (arith, ap (λ (r : Sizes). r .threads) (c19 .counts .ensures), ap (λ (r : Sizes). r .activities) (c19 .counts .ensures), c23 .pre .room))
-    (λ a l. c14 .starts .ensures .filled a (omega (arith, l, ap (λ (r : Sizes). r .activities) (c19 .counts .ensures), c23 .pre .runs .few))) (c12 .write-head .ensures) (c8 .write-threads .ensures) (c .before .before .write-activities .ensures) in
-    rw (c19 .counts .ensures, c16 .grid-at .ensures) at whole
+    let c7 = c .before .before .before .before .before .before .before in
+    let c11 = c7 .before .before .before .before in
+    let c13 = c11 .before .before in
+    let c15 = c13 .before .before in
+    let c17 = c15 .before .before in
+    let c21 = c17 .before .before .before .before in
+    let en = ap (λ (r : Sizes). r .threads) (c17 .counts .ensures) in
+    let em = ap (λ (r : Sizes). r .activities) (c17 .counts .ensures) in
+    let whole = front-says _ _ _ _ _ _ _ _ (c21 .args .out .now) _ _ _ (omega (arith, en, em, c21 .pre .room))
+    (λ a l. c13 .starts-from .ensures .filled a (omega (arith, l, em, c21 .pre .runs .few)))
+    (c11 .put-head .ensures) (c7 .write-threads .ensures) (c .before .before .write-activities .ensures) in
+    rw (c17 .counts .ensures, c15 .grid-at .ensures) at whole
 
 pub write-front-spec : {M : Type 1} → statement M
 write-front-spec =
     tie.close
     (tie.spec
     counts-requires
-    cast-n
     grid-at-requires
-    cast-starts
-    starts-requires
-    write-head-requires
+    cast-starts-from
+    starts-from-requires
+    put-head-requires
     write-threads-requires
-    cast-write-activities
-    mul-write-activities
-    add-write-activities
     write-activities-requires
     same-length
     returns)

@@ -4,19 +4,19 @@ use Prim.Native.Nat.{_≤_, _-_}
 use native.Mathlib.Omega.{arith}
 use mathlib.Core.Path.{_≡_, refl, ap, _∙_}
 use lib.ListN.{length}
-use borrow.Author.Needs.{needs}
 use Rattle.schedule.specs.Choice.{choice}
+use Rattle.schedule.specs.Plan.{planThreadRow, pairRows}
 use Rattle.fields.specs.Put.{put}
 use Rattle.records.specs.Rows.{timing}
 use Rattle.records.specs.declared.plan.Timing.{Timing}
-use Rattle.run.specs.Front.{pairRows}
-use Rattle.run.proofs.PlanLaws.{pairs-start, pairs-next}
+use Rattle.records.proofs.WriteLaws.{pairs-start, pairs-next}
+use borrow.Author.Needs.{needs}
 use Rattle.run.proofs.plan.write_threads.Statement.{statement}
 use Rattle.run.proofs.plan.write_threads.Tie as tie
 
 abbrev Inv-loop : tie.InvT-loop
 Inv-loop q n out₀ j₀ out j = (j ≤ n) × (length out ≡ length out₀)
-    × (out ≡ put 9 (pairRows j (choice q .release) (choice q .period)) out₀)
+    × (out ≡ put (planThreadRow 0) (pairRows j (choice q .release) (choice q .period)) out₀)
 
 abbrev μ-loop : tie.MeasureT-loop
 μ-loop q n out₀ j₀ out j = n - j
@@ -27,17 +27,8 @@ loop-holds c = (omega arith, refl, pairs-start _ _ _ _)
 timing-at-requires : tie.Need-timing-at-requires Inv-loop μ-loop
 timing-at-requires c κs = search needs
 
-cast-write-pair : tie.Need-cast-write-pair Inv-loop μ-loop
-cast-write-pair c = omega arith
-
-mul-write-pair : tie.Need-mul-write-pair Inv-loop μ-loop
-mul-write-pair c = omega arith
-
-add-write-pair : tie.Need-add-write-pair Inv-loop μ-loop
-add-write-pair c = omega arith
-
-write-pair-requires : tie.Need-write-pair-requires Inv-loop μ-loop
-write-pair-requires c κs = omega arith
+put-thread-row-requires : tie.Need-put-thread-row-requires Inv-loop μ-loop
+put-thread-row-requires c κs = search needs
 
 add-j : tie.Need-add-j Inv-loop μ-loop
 add-j c = omega arith
@@ -50,11 +41,11 @@ unfolding timing
 loop-again c =
     let c6 = c .before .before .before .before .before .before in
     let l = c6 .loop in
-    let row = c .before .before .before .before .timing-at .ensures in (
+    let row = c .before .before .before .timing-at .ensures in (
       omega arith,
-      c .before .before .write-pair .kept .0 ∙ l .inv .1,
+      c .before .before .put-thread-row .kept .0 ∙ l .inv .1,
       pairs-next _ (l .j) _ _ _ _ _ (l .out) _ (omega arith) (ap (λ (r : Timing). r .release) row)
-          (ap (λ (r : Timing). r .period) row) (l .inv .2) (c .before .before .write-pair .ensures),
+          (ap (λ (r : Timing). r .period) row) (l .inv .2) (c .before .before .put-thread-row .ensures),
     )
 
 same-length : tie.Need-same-length Inv-loop μ-loop
@@ -63,8 +54,9 @@ same-length c = c .before .loop .inv .1
 returns : tie.Need-returns Inv-loop μ-loop
 returns c =
     let x = c .before .before .before .before .args in
+    let q = choice (x .q .now) in
     let whole : c .before .loop .j ≡ x .n = omega arith in
-    c .before .loop .inv .2 ∙ ap (λ k. put 9 (pairRows k (choice (x .q .now) .release) (choice (x .q .now) .period)) (x .out .now)) whole
+    c .before .loop .inv .2 ∙ ap (λ k. put (planThreadRow 0) (pairRows k (q .release) (q .period)) (x .out .now)) whole
 
 pub write-threads-spec : {M : Type 1} → statement M
 write-threads-spec =
@@ -74,10 +66,7 @@ write-threads-spec =
     μ-loop
     loop-holds
     timing-at-requires
-    cast-write-pair
-    mul-write-pair
-    add-write-pair
-    write-pair-requires
+    put-thread-row-requires
     add-j
     loop-less
     loop-again

@@ -1,9 +1,9 @@
--- `run::plan::write_pair` meets its contract: two fields, the second behind the first.
+-- `plan::fill_pair` meets its contract: two fields, the second behind the first.
 -- Assumes nothing.
+use Rattle.records.proofs.WriteLaws.{pair-says}
 use borrow.Author.Needs.{needs}
-use Rattle.run.proofs.PlanLaws.{pair-says}
-use Rattle.run.proofs.plan.write_pair.Statement.{statement}
-use Rattle.run.proofs.plan.write_pair.Tie as tie
+use Rattle.records.proofs.plan.fill_pair.Statement.{statement}
+use Rattle.records.proofs.plan.fill_pair.Tie as tie
 
 put16-requires : tie.Need-put16-requires
 put16-requires c κs = search needs
@@ -23,6 +23,5 @@ returns c =
     let c9 = c6 .before .before .before in
     pair-says _ _ _ _ _ _ (c9 .pre) (c6 .put16 .ensures) (c .before .before .put162 .ensures)
 
-pub write-pair-spec : {M : Type 1} → statement M
-write-pair-spec =
-    tie.close (tie.spec put16-requires add-put16 put16-requires-2 same-length returns)
+pub fill-pair-spec : {M : Type 1} → statement M
+fill-pair-spec = tie.close (tie.spec put16-requires add-put16 put16-requires-2 same-length returns)

@@ -1,12 +1,12 @@
--- `run::plan::write_head` meets its contract: five fields, each behind the one before.
+-- `plan::fill_head` meets its contract: five fields, each behind the one before.
 -- Assumes nothing.
+use Rattle.records.proofs.WriteLaws.{head-says}
 use borrow.Author.Needs.{needs}
-use Rattle.run.proofs.PlanLaws.{head-says}
-use Rattle.run.proofs.plan.write_head.Statement.{statement}
-use Rattle.run.proofs.plan.write_head.Tie as tie
+use Rattle.records.proofs.plan.fill_head.Statement.{statement}
+use Rattle.records.proofs.plan.fill_head.Tie as tie
 
-plan-length-requires : tie.Need-plan-length-requires
-plan-length-requires c κs = search needs
+length-requires : tie.Need-length-requires
+length-requires c κs = search needs
 
 put32-requires : tie.Need-put32-requires
 put32-requires c κs = search needs
@@ -34,14 +34,14 @@ returns c =
     let c18 = c14 .before .before .before .before in
     let c19 = c18 .before in
     let c22 = c19 .before .before .before in
-    head-says _ _ _ _ _ _ _ _ _ _ (c22 .pre) (c19 .plan-length .ensures) (c18 .put32 .ensures)
+    head-says _ _ _ _ _ _ _ _ _ _ (c22 .pre) (c19 .length .ensures) (c18 .put32 .ensures)
     (c14 .put8 .ensures) (c10 .put82 .ensures) (c6 .put83 .ensures) (c .before .before .put16 .ensures)
 
-pub write-head-spec : {M : Type 1} → statement M
-write-head-spec =
+pub fill-head-spec : {M : Type 1} → statement M
+fill-head-spec =
     tie.close
     (tie.spec
-    plan-length-requires
+    length-requires
     put32-requires
     put8-requires
     put8-requires-2

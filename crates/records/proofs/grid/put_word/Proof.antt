@@ -1,0 +1,51 @@
+-- `grid::put_word` meets its contract: the word at its place, where it fits whole.
+-- Assumes nothing.
+use Prim.Native.Nat.{ℕ}
+use native.Mathlib.Omega.{arith}
+use mathlib.Core.Path.{ap, _∙_}
+use Rattle.schedule.specs.Fields.{bytes}
+use Rattle.fields.specs.Put.{put}
+use Rattle.records.proofs.WriteLaws.{word-out}
+use borrow.Author.Needs.{needs}
+use Rattle.records.proofs.grid.put_word.Statement.{statement}
+use Rattle.records.proofs.grid.put_word.Tie as tie
+
+ticks-requires : tie.Need-ticks-requires
+ticks-requires c κs = search needs
+
+tick-at-requires : tie.Need-tick-at-requires
+tick-at-requires c κs = search needs
+
+put32-requires : tie.Need-put32-requires
+put32-requires c κs = search needs
+
+same-length : tie.Need-same-length
+same-length c = search needs
+
+returns : tie.Need-returns
+returns c =
+    let c3 = c .before .before .before in
+    let c9 = c3 .before .before .before .before .before .before in
+    let x = c9 .args in
+    c .before .before .put32 .ensures
+    ∙ ap (λ (i : ℕ). put i (bytes 4 (x .word)) (x .grid .now)) (c3 .tick-at .ensures)
+
+same-length-2 : tie.Need-same-length-2
+same-length-2 c = search needs
+
+returns-2 : tie.Need-returns-2
+returns-2 c =
+    let x = c .before .before .before .before .args in
+    word-out (x .t) (x .word) (x .grid .now) (omega (arith, c .before .ticks .ensures, c .if1 .left))
+
+pub put-word-spec : {M : Type 1} → statement M
+put-word-spec =
+    tie.close
+    (tie.spec
+    ticks-requires
+    tick-at-requires
+    put32-requires
+    same-length
+    returns
+    same-length-2
+    returns-2)
