@@ -14,7 +14,8 @@ use Rattle.schedule.specs.Rule.{Rule}
 use Rattle.schedule.specs.Model.{Model, within, temporally, byData}
 use Rattle.schedule.specs.Plan.{Plan, plan, active}
 use Rattle.schedule.specs.Numbers.{ruleNumber}
-use Rattle.schedule.specs.Checks.{countOf, efe, window, deadlineRule, rule21, rule22, rule23, rule24, rule25, rule26, rule27}
+use Rattle.schedule.specs.Timing.{deadlineRule}
+use Rattle.schedule.specs.Checks.{countOf, efe, window, rule21, rule22, rule23, rule24, rule25, rule26, rule27}
 use Rattle.laws.proofs.Tests.{T-leb}
 use Rattle.laws.proofs.Counting.{T-ext}
 use Rattle.laws.proofs.FieldLaws.{field-lt}

@@ -12,11 +12,12 @@ use ticks::passed;
 ghost use mathlib.Core.Path.{_≡_};
 ghost use mathlib.Core.Bool.{not, cond};
 ghost use Prim.Native.Nat.{_+_, _≤_, _<_};
-ghost use lib.Dec.{eqb, leb};
+ghost use lib.Dec.{leb};
 ghost use Rattle.schedule.specs.Bounded.{bit, _⇒_};
 ghost use Rattle.schedule.specs.Rule.{break};
 ghost use Rattle.schedule.specs.Model.{model, within};
-ghost use Rattle.schedule.specs.Plan.{plan};
+ghost use Rattle.schedule.specs.Timing.{inTime};
+ghost use Rattle.schedule.specs.Plan.{plan, planTiming};
 ghost use Rattle.schedule.specs.Checks.{window};
 ghost use Rattle.laws.proofs.RowLaws.{brokenMask};
 ghost use Rattle.records.specs.Reads.{passNumbers};
@@ -81,8 +82,7 @@ fn count_holds(s: &[u8], a: Activity, count: u32) -> bool
 // 23 at activity a.
 fn deadline_holds(s: &[u8], r: &[u8], a: Activity) -> bool
     ensures { λ x. ⌜ x
-        ≡ (not (eqb (plan (now (r .entry)) .period (model (now (s .entry)) .thread (a .0))) 0)
-        ⇒ leb (plan (now (r .entry)) .end (a .0)) (plan (now (r .entry)) .period (model (now (s .entry)) .thread (a .0)))) ⌝ }
+        ≡ inTime (model (now (s .entry))) (planTiming (plan (now (r .entry)))) (plan (now (r .entry)) .end) (a .0) ⌝ }
 {
     let row = records::plan::thread_row(r, thread_of(s, a));
     on_time(row.period as u32, end_of(r, a))

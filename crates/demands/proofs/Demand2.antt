@@ -13,12 +13,12 @@ use lib.ListN.{length, drop, replicate}
 use borrow.Author.Tests.{lt-ltb, ne-eqb}
 use Rattle.schedule.specs.Rule.{Refusal, firstBreak, AllHold, FirstBroken}
 use Rattle.schedule.specs.Model.{Model, model, modelForm}
+use Rattle.schedule.specs.Timing.{deadlineRule}
 use Rattle.schedule.specs.Choice.{choice, choiceForm}
 use Rattle.schedule.specs.Plan.{Plan, plan, planForm, planBytes}
 use Rattle.schedule.specs.Checks.{
   plainRules,
   strictRules,
-  deadlineRule,
   rule21,
   rule22,
   rule23,

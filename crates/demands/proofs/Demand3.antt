@@ -13,16 +13,17 @@ use lib.Seq.{take-at}
 use Rattle.schedule.specs.Fields.{Bytes}
 use Rattle.schedule.specs.Rule.{AllHold}
 use Rattle.schedule.specs.Model.{model, modelForm}
-use Rattle.schedule.specs.Choice.{choice, choiceForm}
-use Rattle.schedule.specs.Plan.{plan, planForm, planBytes}
+use Rattle.schedule.specs.Timing.{InTime, deadlineRule}
+use Rattle.schedule.specs.Choice.{choice, choiceTiming, choiceForm}
+use Rattle.schedule.specs.Plan.{plan, planTiming, planForm, planBytes}
 use Rattle.schedule.specs.Machine.{machineWord, machineStart, machineEnd, machineOwes}
-use Rattle.schedule.specs.Checks.{deadlineRule}
 use Rattle.schedule.specs.Keeps.{KeepsStrict}
 use Rattle.schedule.specs.Answers.{accepted, Figures, figures, strictChecks, machinePlan, owedRule, runRules, Written, lengthNeeded, runChecks, runAnswer}
 use Rattle.laws.proofs.FieldLaws.{field-lt}
 use Rattle.laws.proofs.PlanBytes.{Fits, ReadsBack, reads-back, length-planBytes, bytes-planBytes}
 use Rattle.laws.proofs.PlanForm.{form-says, written-form, parts-determine}
 use Rattle.laws.proofs.FirstBreak.{hold-append, _&_}
+use Rattle.laws.proofs.Deadlines.{in-time-same}
 use Rattle.laws.proofs.VerdictLaws.{accepted-is-not-refused}
 use Rattle.laws.proofs.Words.{bit-high}
 use Rattle.laws.proofs.Lowest.{lowest-is}
@@ -79,10 +80,10 @@ module _ (s q : List ℕ) (q-bytes : Bytes q) (formed : AllHold (modelForm s))
     unfolding runRules owedRule
     settled a l = settles .0 a 0 l (omega arith)
 
-    on-time : (a : ℕ) → a < model s .activities → ¬ (choice q .period (model s .thread a) ≡ 0)
-        → machineEnd (model s) (choice q .release) (choice q .duration) a ≤ choice q .period (model s .thread a)
+    in-time : (a : ℕ) → a < model s .activities
+        → InTime (model s) (choiceTiming (choice q)) (machineEnd (model s) (choice q .release) (choice q .duration)) a
     unfolding runRules deadlineRule
-    on-time a l = settles .1 .0 a 0 l (omega arith)
+    in-time a l = settles .1 .0 a 0 l (omega arith)
 
     pub machine-fits : Fits (machinePlan (model s) (choice q))
     unfolding machinePlan machineStart machineEnd machineOwes
@@ -136,9 +137,11 @@ module _ (s q : List ℕ) (q-bytes : Bytes q) (formed : AllHold (modelForm s))
     written-keeps =
         keeps (model s) (choice q .release) (choice q .duration) (plan (planBytes (machinePlan (model s) (choice q)))) made
         (model-facts .ordered) (model-facts .activities .1) lasting settled (choice-facts .duration)
-        (λ a l has.
-        let period = back .period (model s .thread a) (model-facts .owner a l) in
-        omega (arith, period, back .end a l, on-time a l (λ e. has (period ∙ e))))
+        (λ a l.
+        let owner = model-facts .owner a l in
+        in-time-same (model s) _ _ _ _ a
+        (record { release = sym (back .release _ owner); period = sym (back .period _ owner) })
+        (sym (back .end a l)) (in-time a l))
 
     -- the plan that is written has the figures of the machine's plan
     same-figures : figures (model s) (plan (planBytes (machinePlan (model s) (choice q))))
@@ -183,14 +186,11 @@ module _ (s q : List ℕ) (q-bytes : Bytes q) (formed : AllHold (modelForm s))
       let w = passing-beside r h in
       let k = passing-keeps r h in
       (λ a _ l _. nothing-owed (model s) (choice q .release) (choice q .duration) (plan r) w k a l)
-      & (λ a _ l _ has.
-      let period = h .1 .choices .periods (model s .thread a) (model-facts .owner a l) in
-      omega (
-        arith,
-        period,
-        same-end (model s) (choice q .release) (choice q .duration) (plan r) w k a l,
-        k .plain .deadline a l (λ e. has (sym period ∙ e)),
-      ))
+      & (λ a _ l _.
+      let owner = model-facts .owner a l in
+      in-time-same (model s) (planTiming (plan r)) (choiceTiming (choice q)) _ _ a
+      (record { release = h .1 .choices .releases _ owner; period = h .1 .choices .periods _ owner })
+      (same-end (model s) (choice q .release) (choice q .duration) (plan r) w k a l) (k .plain .deadline a l))
       & tt
 
   checked : AllHold (runChecks s q)

@@ -26,12 +26,12 @@ use Rattle.schedule.specs.Model.{
   activityRule,
   maskRule,
 }
+use Rattle.schedule.specs.Timing.{deadlineRule}
 use Rattle.schedule.specs.Choice.{Choice, choice, choiceForm, choiceCounts, rangeRule, durationRule}
 use Rattle.schedule.specs.Plan.{Plan, plan, planForm, planCounts, wordRule}
 use Rattle.schedule.specs.Checks.{
   plainRules,
   strictRules,
-  deadlineRule,
   rule21,
   rule22,
   rule23,

@@ -10,7 +10,8 @@ use mathlib.Core.Path.{_≡_, sym, subst, ap, _∙_}
 use lib.Dec.{T}
 use Rattle.schedule.specs.Bounded.{count, bit, ones, lowest}
 use Rattle.schedule.specs.Model.{Model, priorityOf, temporally, byData, Within}
-use Rattle.schedule.specs.Plan.{Plan, active}
+use Rattle.schedule.specs.Timing.{InTime}
+use Rattle.schedule.specs.Plan.{Plan, planTiming, active}
 use Rattle.schedule.specs.Machine.{owes, endOf, ready, selected, machineWord, machineStart, machineEnd, machineOwes}
 use Rattle.schedule.specs.Checks.{countOf, efe, Waiting, Window}
 use Rattle.schedule.specs.Keeps.{KeepsStrict}
@@ -208,7 +209,7 @@ module _ (m : Model) (release duration : ℕ → ℕ) (p : Plan) (made : Made m 
 
   -- rules 21 to 31, given 22 and 23
   pub keeps : ((a : ℕ) → a < m .activities → Within (m .least-duration a) (m .most-duration a) (duration a))
-      → ((a : ℕ) → a < m .activities → ¬ (p .period (m .thread a) ≡ 0) → p .end a ≤ p .period (m .thread a))
+      → ((a : ℕ) → a < m .activities → InTime m (planTiming p) (p .end) a)
       → KeepsStrict m p
   unfolding Before
   keeps range deadline = record {

@@ -10,6 +10,7 @@ pub mod Parts
 pub mod PlanBytes
 pub mod PlanForm
 pub mod FirstBreak
+pub mod Deadlines
 pub mod Sound
 pub mod VerdictLaws
 pub mod RuleNumbers

@@ -19,7 +19,7 @@ use Rattle.schedule.specs.Model.{
   modelForm,
 }
 use Rattle.schedule.specs.Choice.{Choice, choiceCounts, rangeRule, durationRule, choiceForm}
-use Rattle.schedule.specs.Checks.{deadlineRule}
+use Rattle.schedule.specs.Timing.{deadlineRule}
 use Rattle.schedule.specs.Answers.{owedRule, runRules, runChecks}
 
 -- every rule of a list has a property

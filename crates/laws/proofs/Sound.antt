@@ -17,6 +17,7 @@ use Rattle.schedule.specs.Model.{
   maskRule,
   modelForm,
 }
+use Rattle.schedule.specs.Timing.{deadlineRule}
 use Rattle.schedule.specs.Choice.{Choice, choiceCounts, rangeRule, durationRule, choiceForm}
 use Rattle.schedule.specs.Plan.{Plan, plan, planCounts, wordRule, planForm}
 use Rattle.schedule.specs.Checks.{
@@ -24,7 +25,6 @@ use Rattle.schedule.specs.Checks.{
   window,
   Waiting,
   waits,
-  deadlineRule,
   plainRules,
   strictRules,
   rule21,
@@ -41,6 +41,7 @@ use Rattle.schedule.specs.Checks.{
 }
 use Rattle.schedule.specs.Answers.{owedRule, runRules, plainChecks, strictChecks, runChecks}
 use Rattle.laws.proofs.Tests.{tests}
+use Rattle.laws.proofs.Deadlines.{in-time-sound}
 use Rattle.laws.proofs.FirstBreak.{AllSound, sound-append, _&_}
 
 -- the two statements that are records, by their parts
@@ -71,7 +72,7 @@ waits-sound m p t a = simp tests (
 )
 
 -- a whole rule's test, read at once
-ruleset whole = (tests, window-sound, waits-sound)
+ruleset whole = (tests, window-sound, waits-sound, in-time-sound)
 
 -- once its test is read, a rule's test and its statement are the same
 same : (P : ℕ → ℕ → Type 0) (a b : ℕ) → P a b ↔ P a b

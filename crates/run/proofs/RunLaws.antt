@@ -9,11 +9,11 @@ use mathlib.Core.List.{List, [], _++_, append-assoc}
 use mathlib.Core.Logic.{_⊎_, inl, inr, ⊎-elim}
 use mathlib.Core.Option.{Option, some, none}
 use mathlib.Core.Path.{_≡_, refl, sym, subst, ap, ap₂, _∙_}
-use lib.Dec.{T, eqb, leb, ltb}
+use lib.Dec.{T, eqb, ltb}
 use lib.ListN.{length, getD, drop, replicate, length-append}
 use lib.Pow.{pow-mono}
 use borrow.Author.Tests.{lt-ltb, le-ltb, eq-eqb, ne-eqb}
-use Rattle.schedule.specs.Bounded.{lowest, bit, ones, least, _⇒_}
+use Rattle.schedule.specs.Bounded.{lowest, bit, ones, least}
 use Rattle.schedule.specs.Fields.{Bytes}
 use Rattle.schedule.specs.Rule.{Rule, Refusal, break, firstBreak}
 use Rattle.schedule.specs.declared.Figures.{Figures as Shown}
@@ -21,10 +21,10 @@ use Rattle.schedule.specs.declared.Refusal.{Refusal as Declared}
 use Rattle.schedule.specs.declared.RunVerdict.{RunVerdict}
 use Rattle.schedule.specs.Numbers.{refusalNumbers, figureNumbers, runNumbers}
 use Rattle.schedule.specs.Model.{Model, model, modelForm, limitsRule, maskRule}
-use Rattle.schedule.specs.Choice.{Choice, choice, choiceForm}
+use Rattle.schedule.specs.Choice.{Choice, choice, choiceTiming, choiceForm}
 use Rattle.schedule.specs.Plan.{planBytes, pairRows, tickAt, wordIn}
 use Rattle.schedule.specs.Machine.{owes, endOf, initial, stateAt, machineWord, machineStart, machineEnd}
-use Rattle.schedule.specs.Checks.{deadlineRule}
+use Rattle.schedule.specs.Timing.{onTime, inTime, deadlineRule}
 use Rattle.schedule.specs.Answers.{Answer, accepted, refused, answer, figures, Written, machinePlan, owedRule, runRules}
 use Rattle.schedule.specs.Answers.{lengthNeeded, runChecks, outcome, runAnswer, bufferAfter, runBuffer}
 use Rattle.laws.proofs.Tests.{T-not}
@@ -48,7 +48,7 @@ use Rattle.run.specs.declared.tables.Column.{Column}
 use Rattle.run.specs.Tables.{entryOf, Filled}
 use Rattle.run.specs.Grid.{gridBytes, Runs, Finished}
 use Rattle.run.specs.Outcome.{concluded, Stopped, Standing, Answers}
-use Rattle.run.specs.Front.{frontBytes, frontIn, gridOf, gridIn, startIn, usageIn, figuresIn, onTime}
+use Rattle.run.specs.Front.{frontBytes, frontIn, gridOf, gridIn, startIn, usageIn, figuresIn, inTimeFrom}
 use Rattle.run.proofs.GridLaws.{length-grid}
 
 -- ---- a rule of one column, from the lowest row that breaks it
@@ -92,7 +92,7 @@ none-left = refl
 module _ (m : Model) (q : Choice) (owed ends : List ℕ) (stopped : Stopped m q owed ends) (n : ℕ) (en : n ≡ m .activities) where
   -- rule 43
   abbrev deadline : Rule
-  deadline = deadlineRule 43 m (q .period) (machineEnd m (q .release) (q .duration))
+  deadline = deadlineRule 43 m (choiceTiming q) (machineEnd m (q .release) (q .duration))
 
   owing-is : (i : ℕ) → i ≡ lowest n (λ a. not (eqb (getD owed a 0) 0))
       → Lowest (owedRule m q .rows) (λ a. not (owedRule m q .test a 0)) i
@@ -104,14 +104,14 @@ module _ (m : Model) (q : Choice) (owed ends : List ℕ) (stopped : Stopped m q 
       ∙ lowest-ext (m .activities) _ _ (λ a l. ap (λ (x : ℕ). not (eqb x 0)) (stopped .owed-ticks a l)))
 
   late-is : (i : ℕ) (periods : List ℕ) → Filled n (entryOf Column.Period m q) periods
-      → i ≡ lowest n (λ a. not (onTime periods ends a)) → Lowest (deadline .rows) (λ a. not (deadline .test a 0)) i
-  unfolding deadlineRule onTime
+      → i ≡ lowest n (λ a. not (inTimeFrom periods ends a)) → Lowest (deadline .rows) (λ a. not (deadline .test a 0)) i
+  unfolding deadlineRule inTime inTimeFrom
   late-is i periods held e =
       is-lowest (m .activities) _ i
       (e
-      ∙ ap (λ (k : ℕ). lowest k (λ a. not (onTime periods ends a))) en
+      ∙ ap (λ (k : ℕ). lowest k (λ a. not (inTimeFrom periods ends a))) en
       ∙ lowest-ext (m .activities) _ _ (λ a l.
-      ap₂ (λ (p x : ℕ). not (not (eqb p 0) ⇒ leb x p)) (held .filled a (omega arith)) (stopped .end-ticks a l)))
+      ap₂ (λ (period end : ℕ). not (onTime period period end)) (held .filled a (omega arith)) (stopped .end-ticks a l)))
 
   pub owed-first : (i : ℕ) → i ≡ lowest n (λ a. not (eqb (getD owed a 0) 0)) → i < n
       → firstBreak (runRules m q) ≡ some (record { number = 42; A = i; B = 0 })
@@ -124,7 +124,7 @@ module _ (m : Model) (q : Choice) (owed ends : List ℕ) (stopped : Stopped m q 
 
   module _ (i j : ℕ) (periods : List ℕ) (held : Filled n (entryOf Column.Period m q) periods)
       (ei : i ≡ lowest n (λ a. not (eqb (getD owed a 0) 0))) (li : n ≤ i)
-      (ej : j ≡ lowest n (λ a. not (onTime periods ends a))) where
+      (ej : j ≡ lowest n (λ a. not (inTimeFrom periods ends a))) where
     pub late-first : j < n → firstBreak (runRules m q) ≡ some (record { number = 43; A = j; B = 0 })
     unfolding runRules deadlineRule
     late-first l =

@@ -1,13 +1,13 @@
 -- A plan's bytes in front of its grid, and what the grid's words say.
 -- Assumes nothing.
 use Prim.Native.Nat.{ℕ, _-_, _*_, _<_}
-use mathlib.Core.Bool.{Bool, not, cond}
+use mathlib.Core.Bool.{Bool, cond}
 use mathlib.Core.List.{List, _++_}
 use mathlib.Core.Path.{_≡_}
-use lib.Dec.{eqb, leb}
 use lib.ListN.{length, getD, drop}
-use Rattle.schedule.specs.Bounded.{bit, ones, total, greatest, least, lowest, _⇒_}
+use Rattle.schedule.specs.Bounded.{bit, ones, total, greatest, least, lowest}
 use Rattle.schedule.specs.Model.{Model}
+use Rattle.schedule.specs.Timing.{onTime}
 use Rattle.schedule.specs.Choice.{Choice}
 use Rattle.schedule.specs.Plan.{gridAt, wordIn, pairRows}
 use Rattle.schedule.specs.Answers.{Figures}
@@ -39,8 +39,8 @@ unfoldable pub usageIn : List ℕ → ℕ → ℕ
 usageIn grid h = total h (λ t. ones (wordIn grid t))
 
 -- activity a keeps its deadline, from tables of periods and ends
-unfoldable pub onTime : List ℕ → List ℕ → ℕ → Bool
-onTime periods ends a = not (eqb (getD periods a 0) 0) ⇒ leb (getD ends a 0) (getD periods a 0)
+unfoldable pub inTimeFrom : List ℕ → List ℕ → ℕ → Bool
+inTimeFrom periods ends a = onTime (getD periods a 0) (getD periods a 0) (getD ends a 0)
 
 -- usage, c times H and makespan, from a buffer that has the grid and a table of ends
 unfoldable pub figuresIn : Model → Choice → List ℕ → List ℕ → Figures

@@ -25,7 +25,7 @@ ghost use Rattle.schedule.specs.Numbers.{figureNumbers, refusalNumbers, runNumb
 ghost use Rattle.records.specs.Reads.{passNumbers, refusalIn};
 ghost use Rattle.run.specs.Grid.{Runs};
 ghost use Rattle.run.specs.Outcome.{Stopped};
-ghost use Rattle.run.specs.Front.{gridOf, onTime, usageIn, figuresIn};
+ghost use Rattle.run.specs.Front.{gridOf, inTimeFrom, usageIn, figuresIn};
 
 // ---- 42 and 43
 
@@ -47,7 +47,7 @@ fn first_owing(n: usize, owed: &[u32; 32]) -> usize
 // "43 all ended, an end breaks rule 23; A the lowest": that activity of the first n, n where every end keeps it.
 fn first_late(n: usize, periods: &[u32; 32], ends: &[u32; 32]) -> usize
     requires { ⌜ n ≤ 32 ⌝ }
-    ensures { λ r. ⌜ r ≡ lowest n (λ a. not (onTime (now (periods .entry)) (now (ends .entry)) a)) ⌝ }
+    ensures { λ r. ⌜ r ≡ lowest n (λ a. not (inTimeFrom (now (periods .entry)) (now (ends .entry)) a)) ⌝ }
 {
     let mut a = 0;
     while a < n {

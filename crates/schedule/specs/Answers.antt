@@ -10,10 +10,11 @@ use lib.ListN.{length, drop, replicate}
 use Rattle.schedule.specs.Bounded.{total, greatest, least, ones}
 use Rattle.schedule.specs.Rule.{Rule, Refusal, firstBreak, AllHold}
 use Rattle.schedule.specs.Model.{Model, model, modelForm}
-use Rattle.schedule.specs.Choice.{Choice, choice, choiceForm}
+use Rattle.schedule.specs.Timing.{deadlineRule}
+use Rattle.schedule.specs.Choice.{Choice, choice, choiceTiming, choiceForm}
 use Rattle.schedule.specs.Plan.{Plan, plan, planForm, planLength, planBytes}
 use Rattle.schedule.specs.Machine.{machineWord, machineStart, machineEnd, machineOwes}
-use Rattle.schedule.specs.Checks.{plainRules, strictRules, deadlineRule}
+use Rattle.schedule.specs.Checks.{plainRules, strictRules}
 
 -- what a call answers: what a pass answers, or the refusal
 pub data Answer (F : Type 0) : Type 0 where
@@ -80,7 +81,7 @@ owedRule m q = record {
 -- 42, then 43 all ended, an end breaks rule 23; A the lowest
 unfoldable pub runRules : Model → Choice → List Rule
 runRules m q =
-    owedRule m q ∷ deadlineRule 43 m (q .period) (machineEnd m (q .release) (q .duration)) ∷ []
+    owedRule m q ∷ deadlineRule 43 m (choiceTiming q) (machineEnd m (q .release) (q .duration)) ∷ []
 
 -- "It answers the length, usage, c times H, and makespan"
 pub record Written : Type 0 where

@@ -9,6 +9,7 @@ use Rattle.schedule.specs.Bounded
 use Rattle.schedule.specs.Fields
 use Rattle.schedule.specs.Rule
 use Rattle.schedule.specs.Model
+use Rattle.schedule.specs.Timing
 use Rattle.schedule.specs.Choice
 use Rattle.schedule.specs.Plan
 use Rattle.schedule.specs.Machine
@@ -84,11 +85,12 @@ unfolding Bounded.all Bounded.count Bounded.total Bounded.greatest Bounded.least
     Rule.break Rule.firstBreak
     Model.model Model.lengthRule Model.versionRule Model.formulaRule Model.limitsRule Model.threadRule
     Model.activityRule Model.maskRule Model.modelForm
+    Timing.inTime Timing.deadlineRule
     Choice.choice Choice.choiceCounts Choice.rangeRule Choice.durationRule Choice.choiceForm
     Plan.plan Plan.planBytes Plan.planCounts Plan.wordRule Plan.planForm
     Machine.endedBy Machine.ready Machine.before Machine.rank Machine.selected Machine.wordAt Machine.initial Machine.step
     Machine.stateAt Machine.machineWord Machine.machineStart Machine.machineEnd Machine.machineOwes
-    Checks.countOf Checks.efeFrom Checks.efes Checks.efe Checks.waits Checks.window Checks.deadlineRule
+    Checks.countOf Checks.efeFrom Checks.efes Checks.efe Checks.waits Checks.window
     Checks.rule21 Checks.rule22 Checks.rule23 Checks.rule24 Checks.rule25 Checks.rule26 Checks.rule27 Checks.rule28
     Checks.rule29 Checks.rule30 Checks.rule31 Checks.plainRules Checks.strictRules
     Answers.answer Answers.figures Answers.plainChecks Answers.strictChecks Answers.plainVerdict Answers.strictVerdict

@@ -9,7 +9,8 @@ use lib.ListN.{getD}
 use Rattle.schedule.specs.Bounded.{all, count, greatest, ones, _⇒_}
 use Rattle.schedule.specs.Rule.{Rule}
 use Rattle.schedule.specs.Model.{Model, priorityOf, temporally, byData, Within, within}
-use Rattle.schedule.specs.Plan.{Plan, active}
+use Rattle.schedule.specs.Timing.{deadlineRule}
+use Rattle.schedule.specs.Plan.{Plan, planTiming, active}
 
 -- "count(a) is the number of words with bit a"
 unfoldable pub countOf : Model → Plan → ℕ → ℕ
@@ -82,19 +83,9 @@ rule22 m p = record {
   test = λ a _. within (m .least-duration a) (m .most-duration a) (countOf m p a);
 }
 
--- 23 a thread with a period has end ≤ that period: the one deadline, of a plan's ends (rule 23) and of the run's (43).
--- A activity.
-unfoldable pub deadlineRule : ℕ → Model → (ℕ → ℕ) → (ℕ → ℕ) → Rule
-deadlineRule number m period end = record {
-  number = number;
-  rows = m .activities;
-  columns = 1;
-  Holds = λ a _. ¬ (period (m .thread a) ≡ 0) → end a ≤ period (m .thread a);
-  test = λ a _. not (eqb (period (m .thread a)) 0) ⇒ leb (end a) (period (m .thread a));
-}
-
+-- 23 a thread with a period has end ≤ that period. A activity.
 unfoldable pub rule23 : Model → Plan → Rule
-rule23 m p = deadlineRule 23 m (p .period) (p .end)
+rule23 m p = deadlineRule 23 m (planTiming p) (p .end)
 
 -- 24 end − start ≥ count, with no truncated difference. A activity.
 unfoldable pub rule24 : Model → Plan → Rule

@@ -8,6 +8,7 @@ use lib.Dec.{eqb}
 use Rattle.schedule.specs.Fields.{field, pairRow}
 use Rattle.schedule.specs.Rule.{Rule}
 use Rattle.schedule.specs.Model.{Model, lengthRule, versionRule, formulaRule, Within, within}
+use Rattle.schedule.specs.Timing.{Timing}
 
 -- What a choice says: release and period by thread, duration by activity.
 pub record Choice : Type 0 where
@@ -16,6 +17,10 @@ pub record Choice : Type 0 where
   pub release : ℕ → ℕ
   pub period : ℕ → ℕ
   pub duration : ℕ → ℕ
+
+-- its releases and periods
+abbrev pub choiceTiming : Choice → Timing
+choiceTiming q = record { release = q .release; period = q .period }
 
 -- "Length 7 + 4n + 2m"
 abbrev pub choiceLength : ℕ → ℕ → ℕ

@@ -5,7 +5,8 @@ use mathlib.Core.Path.{_≡_}
 use lib.Dec.{T}
 use Rattle.schedule.specs.Bounded.{ones}
 use Rattle.schedule.specs.Model.{Model, priorityOf, temporally, byData, Within}
-use Rattle.schedule.specs.Plan.{Plan, active}
+use Rattle.schedule.specs.Timing.{InTime}
+use Rattle.schedule.specs.Plan.{Plan, planTiming, active}
 use Rattle.schedule.specs.Checks.{countOf, efe, Waiting, Window}
 
 -- rules 21 to 29
@@ -15,7 +16,7 @@ pub record KeepsPlain (m : Model) (p : Plan) : Type 0 where
   -- 22 count within the duration range
   pub duration : (a : ℕ) → a < m .activities → Within (m .least-duration a) (m .most-duration a) (countOf m p a)
   -- 23 a thread with a period has end ≤ that period
-  pub deadline : (a : ℕ) → a < m .activities → ¬ (p .period (m .thread a) ≡ 0) → p .end a ≤ p .period (m .thread a)
+  pub deadline : (a : ℕ) → a < m .activities → InTime m (planTiming p) (p .end) a
   -- 24 end − start ≥ count, with no truncated difference
   pub span : (a : ℕ) → a < m .activities → p .start a + countOf m p a ≤ p .end a
   -- 25 start ≥ end + delay of each temporal predecessor

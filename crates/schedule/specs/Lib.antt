@@ -3,6 +3,7 @@ pub mod Bounded
 pub mod Fields
 pub mod Rule
 pub mod Model
+pub mod Timing
 pub mod Choice
 pub mod Plan
 pub mod Machine

@@ -10,6 +10,7 @@ use Rattle.schedule.specs.Bounded.{all, bit, rows, _⇒_}
 use Rattle.schedule.specs.Fields.{field, bytes, pair, pairRow}
 use Rattle.schedule.specs.Rule.{Rule}
 use Rattle.schedule.specs.Model.{Model, lengthRule, versionRule, formulaRule}
+use Rattle.schedule.specs.Timing.{Timing}
 use Rattle.schedule.specs.Choice.{rangeRule}
 
 -- What a plan says: release and period by thread, start and end by activity, the word of active activities by tick.
@@ -22,6 +23,10 @@ pub record Plan : Type 0 where
   pub start : ℕ → ℕ
   pub end : ℕ → ℕ
   pub word : ℕ → ℕ
+
+-- its releases and periods
+abbrev pub planTiming : Plan → Timing
+planTiming p = record { release = p .release; period = p .period }
 
 -- "Bit a of a tick's word says that activity a is active"
 abbrev pub active : Plan → ℕ → ℕ → Bool

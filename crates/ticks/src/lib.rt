@@ -1,9 +1,9 @@
 // The paper's comparisons of ticks, made once for the checks and for the run.
 ghost use mathlib.Core.Path.{_≡_};
-ghost use mathlib.Core.Bool.{_&&_, not, cond};
+ghost use mathlib.Core.Bool.{_&&_, cond};
 ghost use Prim.Native.Nat.{_+_};
-ghost use lib.Dec.{eqb, leb, ltb};
-ghost use Rattle.schedule.specs.Bounded.{_⇒_};
+ghost use lib.Dec.{leb, ltb};
+ghost use Rattle.schedule.specs.Timing.{onTime};
 
 // "end + that predecessor's delay ≤ t", for every end and delay: no sum is made.
 pub fn passed(end: u32, delay: u32, t: u32) -> bool
@@ -12,9 +12,9 @@ pub fn passed(end: u32, delay: u32, t: u32) -> bool
     if end <= t { delay <= t - end } else { false }
 }
 
-// "a thread with a period has end ≤ that period": period 0 is none.
+// "a thread with a period has end ≤ that period": period 0 is none, and the deadline is the period.
 pub fn on_time(period: u32, end: u32) -> bool
-    ensures { λ r. ⌜ r ≡ (not (eqb period 0) ⇒ leb end period) ⌝ }
+    ensures { λ r. ⌜ r ≡ onTime period period end ⌝ }
 {
     if period == 0 { true } else { end <= period }
 }

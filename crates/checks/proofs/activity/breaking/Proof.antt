@@ -3,7 +3,8 @@ use native.Mathlib.Omega.{arith}
 use mathlib.Core.Path.{refl, ap, _∙_}
 use Rattle.schedule.specs.Model.{model}
 use Rattle.schedule.specs.Plan.{plan}
-use Rattle.schedule.specs.Checks.{deadlineRule, rule21, rule22, rule23, rule24, rule27}
+use Rattle.schedule.specs.Timing.{deadlineRule}
+use Rattle.schedule.specs.Checks.{rule21, rule22, rule23, rule24, rule27}
 use Rattle.records.specs.declared.model.Sizes.{Sizes}
 use Rattle.records.specs.declared.model.ActivityRow.{ActivityRow}
 use Rattle.records.specs.Rows.{sizesOf, activityRowOf}

@@ -1,9 +1,7 @@
 -- `checks::activity::deadline_holds` meets its contract: the thread's period and the activity's end. Assumes nothing.
-use mathlib.Core.Bool.{not}
 use mathlib.Core.Path.{ap, ap₂, _∙_}
 use Prim.Native.Nat.{ℕ}
-use lib.Dec.{eqb, leb}
-use Rattle.schedule.specs.Bounded.{_⇒_}
+use Rattle.schedule.specs.Timing.{onTime, inTime}
 use Rattle.schedule.specs.Plan.{plan}
 use Rattle.records.specs.declared.plan.Timing.{Timing}
 use Rattle.records.specs.Rows.{timing}
@@ -27,11 +25,11 @@ on-time-requires : tie.Need-on-time-requires
 on-time-requires c κs = search needs
 
 returns : tie.Need-returns
-unfolding timing
+unfolding timing inTime
 returns c =
     let x = c .before .before .before .before .before .before .before .args in
     c .on-time .ensures
-    ∙ ap₂ (λ (period end : ℕ). not (eqb period 0) ⇒ leb end period)
+    ∙ ap₂ (λ (period end : ℕ). onTime period period end)
     (ap (λ (y : Timing). y .period) (c .before .before .before .thread-row .ensures)
     ∙ ap (λ j. plan (x .r .now) .period (j .0)) (c .before .before .before .before .thread-of .ensures))
     (c .before .end-of .ensures)

@@ -4,14 +4,14 @@ use Prim.Native.Nat.{ℕ, _≤_, _-_}
 use mathlib.Core.Bool.{Bool, not}
 use mathlib.Core.Path.{sym, subst, ap}
 use lib.Dec.{T}
-use Rattle.run.specs.Front.{onTime}
+use Rattle.run.specs.Front.{inTimeFrom}
 use Rattle.run.proofs.PlanLaws.{Clear, clear-none, clear-more, found-here, found-none}
 use borrow.Author.Needs.{needs}
 use Rattle.run.proofs.finish.first_late.Statement.{statement}
 use Rattle.run.proofs.finish.first_late.Tie as tie
 
 abbrev Inv-loop : tie.InvT-loop
-Inv-loop n periods ends a₀ a = (a ≤ n) × Clear (λ a. not (onTime periods ends a)) a
+Inv-loop n periods ends a₀ a = (a ≤ n) × Clear (λ a. not (inTimeFrom periods ends a)) a
 
 abbrev μ-loop : tie.MeasureT-loop
 μ-loop n periods ends a₀ a = n - a
@@ -19,7 +19,7 @@ abbrev μ-loop : tie.MeasureT-loop
 loop-holds : tie.Need-loop-holds Inv-loop μ-loop
 loop-holds c =
     let x = c .args in
-    (omega arith, clear-none (λ a. not (onTime (x .periods .now) (x .ends .now) a)))
+    (omega arith, clear-none (λ a. not (inTimeFrom (x .periods .now) (x .ends .now) a)))
 
 mul-on-time : tie.Need-mul-on-time Inv-loop μ-loop
 mul-on-time c = omega arith
@@ -37,11 +37,11 @@ on-time-requires : tie.Need-on-time-requires Inv-loop μ-loop
 on-time-requires c κs = search needs
 
 returns : tie.Need-returns Inv-loop μ-loop
-unfolding onTime
+unfolding inTimeFrom
 returns c =
     let x = c .before .before .before .before .before .before .args in
     let l = c .before .before .before .before .before .loop in
-    let p : ℕ → Bool = λ a. not (onTime (x .periods .now) (x .ends .now) a) in
+    let p : ℕ → Bool = λ a. not (inTimeFrom (x .periods .now) (x .ends .now) a) in
     found-here (x .n) p (l .a) (not (c .before .on-time .result)) (omega arith) (l .inv .1) (ap not (c .before .on-time .ensures)) (subst T (sym (c .if1 .taken)) tt)
 
 add-a : tie.Need-add-a Inv-loop μ-loop
@@ -51,11 +51,11 @@ loop-less : tie.Need-loop-less Inv-loop μ-loop
 loop-less c = omega arith
 
 loop-again : tie.Need-loop-again Inv-loop μ-loop
-unfolding onTime
+unfolding inTimeFrom
 loop-again c =
     let x = c .before .before .before .before .before .before .args in
     let l = c .before .before .before .before .before .loop in
-    let p : ℕ → Bool = λ a. not (onTime (x .periods .now) (x .ends .now) a) in
+    let p : ℕ → Bool = λ a. not (inTimeFrom (x .periods .now) (x .ends .now) a) in
     (omega arith, clear-more p (l .a) (not (c .before .on-time .result)) (l .inv .1) (ap not (c .before .on-time .ensures)) (λ t. subst T (c .if1 .left) t))
 
 returns-2 : tie.Need-returns-2 Inv-loop μ-loop
