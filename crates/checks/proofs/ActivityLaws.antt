@@ -1,6 +1,6 @@
 -- What the code of rules 21 to 27 answers at an activity is the mask of the rule's broken places there.
 -- Assumes nothing.
-use Prim.Native.Nat.{ℕ, zero, suc, _+_, _-_, _≤_, _<_}
+use Prim.Native.Nat.{ℕ, _+_, _-_, _≤_, _<_}
 use native.Mathlib.Nat.{add-zero}
 use native.Mathlib.Omega.{arith}
 use mathlib.Core.Bool.{Bool, true, _&&_, not, cond, Bool·not-not}
@@ -21,10 +21,11 @@ use Rattle.laws.proofs.Counting.{T-ext}
 use Rattle.laws.proofs.FieldLaws.{field-lt}
 use Rattle.laws.proofs.Words.{wordOf-ext}
 use Rattle.laws.proofs.RowLaws.{brokenMask}
+use Rattle.laws.proofs.Named.{rule-number}
 use Rattle.checks.specs.declared.activity.ActivityRule.{ActivityRule}
 use Rattle.checks.specs.Tables.{Holds, finishOf}
 use Rattle.checks.proofs.MaskRow.{one-column}
-use Rattle.checks.specs.Rules.{activityRule, activityName, ruleAt, earlyFrom, noneOutside}
+use Rattle.checks.specs.Rules.{activityRule, activityName, earlyFrom, noneOutside}
 
 -- 21, where only "none outside" is left to try
 pub window-outside : (m : Model) (p : Plan) (a : ℕ) (stray : Bool) → ltb (p .start a) (p .end a) ≡ true
@@ -60,16 +61,6 @@ pub eligible-sum : (e k s : ℕ) → leb (e + k) (s + k) ≡ leb e s
 eligible-sum e k s = T-ext _ _ (λ t. T-leb e s .1 (omega (arith, T-leb (e + k) (s + k) .0 t)))
     (λ t. T-leb (e + k) (s + k) .1 (omega (arith, T-leb e s .0 t)))
 
--- the last rule from 6 on
-pub last-rule-at : (k : ℕ) → 6 ≤ k → ActivityRule.Eligible ≡ ruleAt k
-last-rule-at zero h = absurd (omega arith)
-last-rule-at (suc zero) h = absurd (omega arith)
-last-rule-at (suc (suc zero)) h = absurd (omega arith)
-last-rule-at (suc (suc (suc zero))) h = absurd (omega arith)
-last-rule-at (suc (suc (suc (suc zero)))) h = absurd (omega arith)
-last-rule-at (suc (suc (suc (suc (suc zero))))) h = absurd (omega arith)
-last-rule-at (suc (suc (suc (suc (suc (suc k)))))) h = refl
-
 -- a rule of activities is tried at m activities and at no more than 32 columns
 pub activity-rows : (rule : ActivityRule) (m : Model) (p : Plan) → activityRule rule m p .rows ≡ m .activities
 unfolding rule21 rule22 rule23 rule24 rule25 rule26 rule27 deadlineRule
@@ -93,14 +84,7 @@ activity-columns ActivityRule.Data m p h = h
 activity-columns ActivityRule.Eligible m p h = omega arith
 
 pub activity-number : (rule : ActivityRule) (m : Model) (p : Plan) → ruleNumber (activityName rule) ≡ activityRule rule m p .number
-unfolding rule21 rule22 rule23 rule24 rule25 rule26 rule27 deadlineRule
-activity-number ActivityRule.Window m p = refl
-activity-number ActivityRule.Count m p = refl
-activity-number ActivityRule.Deadline m p = refl
-activity-number ActivityRule.Span m p = refl
-activity-number ActivityRule.Temporal m p = refl
-activity-number ActivityRule.Data m p = refl
-activity-number ActivityRule.Eligible m p = refl
+activity-number rule m p = rule-number m p (activityName rule)
 
 -- a rule that names no B: the flag is its mask
 pub flagged : (r : Rule) (a mask : ℕ) (holds : Bool) → r .columns ≡ 1 → mask ≡ cond holds 0 1 → holds ≡ r .test a 0

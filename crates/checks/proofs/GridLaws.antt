@@ -1,65 +1,72 @@
 -- The rules of a whole check in the order in which the code tries them, and the tables that it tries them with.
 -- Assumes nothing.
-use Prim.Native.Nat.{ℕ, zero, suc, _+_, _-_, _≤_, _<_, max}
-use native.Mathlib.Numerals.{add-one}
+use Prim.Native.Nat.{ℕ, _+_, _-_, _≤_, _<_, max}
 use native.Mathlib.Omega.{arith}
 use mathlib.Core.Bool.{Bool, true, false, _&&_, cond}
-use mathlib.Core.List.{List, _∷_, _++_}
+use mathlib.Core.List.{List, _++_, map}
 use mathlib.Core.Path.{_≡_, refl, sym, subst, ap, ap₂, _∙_}
 use lib.Dec.{eqb, ltb}
-use lib.ListN.{drop}
+use lib.ListN.{length}
 use Rattle.schedule.specs.Bounded.{wordOf}
 use Rattle.schedule.specs.Rule.{break, firstBreak}
 use Rattle.schedule.specs.Model.{Model, priorityOf, temporally, byData}
 use Rattle.schedule.specs.Plan.{Plan}
-use Rattle.schedule.specs.Checks.{countOf, plainRules, strictRules}
+use Rattle.schedule.specs.Checks.{countOf, rulesOf, plainRules, strictRules}
 use Rattle.schedule.specs.declared.Refusal.{Refusal}
 use Rattle.laws.proofs.Sums.{greatest-ext}
 use Rattle.laws.proofs.Words.{wordOf-ext}
 use Rattle.records.specs.declared.Pass.{Pass}
 use Rattle.records.specs.Reads.{passNumbers}
 use Rattle.checks.specs.declared.activity.ActivityRule.{ActivityRule}
+use Rattle.checks.specs.declared.activity.Following.{Following}
 use Rattle.checks.specs.declared.tick.TickRule.{TickRule}
 use Rattle.checks.specs.Tables.{Holds, HoldsOnly, after, finishOf, fromOf, outranksFrom, rankMask, loadRule, rankRule, Ranked, Tabled, Timed}
-use Rattle.checks.specs.Rules.{activityRule, ruleAt, activityRules, twoRules, tickRules, gridRules}
+use Rattle.checks.specs.Rules.{activityName, activityRule, activityOrder, activityRules, behind, firstOf, untried, untriedRules}
+use Rattle.checks.specs.Rules.{twoRules, tickRules, gridRules}
 use Rattle.checks.proofs.EfeTable.{from-after}
 use Rattle.checks.proofs.ListLaws.{stops, goes-on, list-stops, list-goes-on}
 
--- the rules of activities from the k-th on
-drop-rule : (m : Model) (p : Plan) (k : ℕ) → k < 7
-    → drop k (activityRules m p) ≡ activityRule (ruleAt k) m p ∷ drop (suc k) (activityRules m p)
-unfolding activityRules
-drop-rule m p zero l = refl
-drop-rule m p (suc zero) l = refl
-drop-rule m p (suc (suc zero)) l = refl
-drop-rule m p (suc (suc (suc zero))) l = refl
-drop-rule m p (suc (suc (suc (suc zero)))) l = refl
-drop-rule m p (suc (suc (suc (suc (suc zero))))) l = refl
-drop-rule m p (suc (suc (suc (suc (suc (suc zero)))))) l = refl
-drop-rule m p (suc (suc (suc (suc (suc (suc (suc k))))))) l = absurd (omega arith)
+-- what follows a rule stands first behind it
+untried-behind : (rule : ActivityRule) → untried (firstOf (behind rule activityOrder)) ≡ behind rule activityOrder
+untried-behind ActivityRule.Window = refl
+untried-behind ActivityRule.Count = refl
+untried-behind ActivityRule.Deadline = refl
+untried-behind ActivityRule.Span = refl
+untried-behind ActivityRule.Temporal = refl
+untried-behind ActivityRule.Data = refl
+untried-behind ActivityRule.Eligible = refl
 
-module _ (m : Model) (p : Plan) (k : ℕ) (less : k < 7) (rule : ActivityRule) (told : rule ≡ ruleAt k) (pass : Pass)
-    (e : passNumbers pass ≡ break (activityRule rule m p)) where
-  named : passNumbers pass ≡ break (activityRule (ruleAt k) m p)
-  named = e ∙ ap (λ (r : ActivityRule). break (activityRule r m p)) told
+untried-next : (rule : ActivityRule) (next : Following) → next ≡ firstOf (behind rule activityOrder)
+    → untried next ≡ behind rule activityOrder
+untried-next rule next e = ap untried e ∙ untried-behind rule
 
-  -- the k-th is broken
-  pub rule-breaks : (x : Refusal) → pass ≡ Pass.Refused x → passNumbers pass ≡ firstBreak (drop k (activityRules m p))
+-- a rule that is tried leaves one less
+pub one-less : (following : Following) (rule : ActivityRule) → following ≡ Following.Rule rule
+    → (next : Following) → next ≡ firstOf (behind rule activityOrder)
+    → length (untried next) < length (untried following)
+one-less following rule told next e =
+    omega (arith, ap (λ (f : Following). length (untried f)) told, ap (λ (l : List ActivityRule). length l) (untried-next rule next e))
+
+module _ (m : Model) (p : Plan) (following : Following) (rule : ActivityRule) (told : following ≡ Following.Rule rule)
+    (pass : Pass) (e : passNumbers pass ≡ break (activityRule rule m p)) where
+  -- the rule is broken
+  pub rule-breaks : (x : Refusal) → pass ≡ Pass.Refused x → passNumbers pass ≡ firstBreak (untriedRules following m p)
   rule-breaks x h =
-      stops pass x (activityRule (ruleAt k) m p) (drop (suc k) (activityRules m p)) h named
-      ∙ sym (ap firstBreak (drop-rule m p k less))
+      stops pass x (activityRule rule m p) _ h e ∙ sym (ap (λ (f : Following). firstBreak (untriedRules f m p)) told)
 
   -- it holds, and the rest decides
-  pub rule-holds : pass ≡ Pass.Holds → firstBreak (drop (k + 1) (activityRules m p)) ≡ firstBreak (drop k (activityRules m p))
-  rule-holds h =
-      ap (λ (i : ℕ). firstBreak (drop i (activityRules m p))) (add-one k)
-      ∙ goes-on pass (activityRule (ruleAt k) m p) (drop (suc k) (activityRules m p)) _ h named refl
-      ∙ sym (ap firstBreak (drop-rule m p k less))
+  pub rule-holds : (next : Following) → next ≡ firstOf (behind rule activityOrder) → pass ≡ Pass.Holds
+      → firstBreak (untriedRules next m p) ≡ firstBreak (untriedRules following m p)
+  rule-holds next n h =
+      goes-on pass (activityRule rule m p) _ _ h e
+      (ap (λ (l : List ActivityRule). firstBreak (rulesOf (map activityName l) m p)) (untried-next rule next n))
+      ∙ sym (ap (λ (f : Following). firstBreak (untriedRules f m p)) told)
 
--- all seven hold
-pub rules-end : (m : Model) (p : Plan) (k : ℕ) → k ≡ 7 → passNumbers Pass.Holds ≡ firstBreak (drop k (activityRules m p))
-unfolding activityRules firstBreak
-rules-end m p k e = sym (ap (λ (i : ℕ). firstBreak (drop i (activityRules m p))) e)
+-- nothing is left to be tried
+pub rules-end : (m : Model) (p : Plan) (following : Following) → following ≡ Following.Nothing
+    → passNumbers Pass.Holds ≡ firstBreak (untriedRules following m p)
+unfolding firstBreak
+rules-end m p following told = sym (ap (λ (f : Following). firstBreak (untriedRules f m p)) told)
 
 grid-split : (strict : Bool) (m : Model) (p : Plan) → activityRules m p ++ tickRules strict m p ≡ gridRules strict m p
 unfolding activityRules twoRules plainRules strictRules

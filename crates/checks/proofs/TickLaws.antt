@@ -20,6 +20,7 @@ use Rattle.laws.proofs.Tests.{T-all}
 use Rattle.laws.proofs.Counting.{T-ext, T-false}
 use Rattle.laws.proofs.Words.{bit-high, bit-wordOf, word-ext, wordOf-ext, wordOf-lt}
 use Rattle.laws.proofs.RowLaws.{brokenMask}
+use Rattle.laws.proofs.Named.{rule-number}
 use Rattle.bits.proofs.WordLaws.{bit-zero}
 use Rattle.checks.specs.declared.tick.TickRule.{TickRule}
 use Rattle.checks.specs.Windows.{openOf, without}
@@ -125,11 +126,7 @@ tick-columns TickRule.Idle m p h = h
 tick-columns TickRule.Tie m p h = h
 
 pub tick-number : (rule : TickRule) (m : Model) (p : Plan) → ruleNumber (tickName rule) ≡ tickRule rule m p .number
-unfolding rule28 rule29 rule30 rule31
-tick-number TickRule.Cores m p = refl
-tick-number TickRule.Preemption m p = refl
-tick-number TickRule.Idle m p = refl
-tick-number TickRule.Tie m p = refl
+tick-number rule m p = rule-number m p (tickName rule)
 
 -- the mask of a tick, from the word, the cores and the open windows that the code reads
 pub tick-read : (rule : TickRule) (m : Model) (p : Plan) (froms ends masks : List ℕ) → Tabled rule m p froms ends masks

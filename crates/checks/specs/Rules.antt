@@ -1,29 +1,22 @@
 -- The rules of activities by name, what their code needs, and the rules of a check in the order in which they are tried.
 -- Assumes nothing.
-use Prim.Native.Nat.{ℕ, zero, suc, _+_, _≤_, _<_}
-use mathlib.Core.Bool.{Bool, true, false, _&&_, not}
-use mathlib.Core.List.{List, [], _∷_, _++_}
+use Prim.Native.Nat.{ℕ, _+_, _≤_, _<_}
+use mathlib.Core.Bool.{Bool, true, false, _&&_, not, cond}
+use mathlib.Core.List.{List, [], _∷_, _++_, map}
 use mathlib.Core.Path.{_≡_}
-use lib.Dec.{leb, ltb}
+use lib.Dec.{eqb, leb, ltb}
 use lib.ListN.{getD}
 use Rattle.schedule.specs.Bounded.{all, bit, wordOf, _⇒_}
 use Rattle.schedule.specs.Rule.{Rule}
 use Rattle.schedule.specs.Model.{Model}
 use Rattle.schedule.specs.Plan.{Plan, active}
-use Rattle.schedule.specs.Checks.{countOf, rule21, rule22, rule23, rule24, rule25, rule26, rule27, plainRules, strictRules}
+use Rattle.schedule.specs.Checks.{countOf, ruleOf, rulesOf, plainRules, strictRules}
 use Rattle.schedule.specs.Answers.{plainChecks, strictChecks}
+use Rattle.schedule.specs.Numbers.{ruleNumber}
 use Rattle.schedule.specs.declared.RuleRefusal.{RuleRefusal}
 use Rattle.checks.specs.declared.activity.ActivityRule.{ActivityRule}
+use Rattle.checks.specs.declared.activity.Following.{Following}
 use Rattle.checks.specs.Tables.{Holds, finishOf, tickRule, loadRule, rankRule}
-
-abbrev pub activityRule : ActivityRule → Model → Plan → Rule
-activityRule ActivityRule.Window = rule21
-activityRule ActivityRule.Count = rule22
-activityRule ActivityRule.Deadline = rule23
-activityRule ActivityRule.Span = rule24
-activityRule ActivityRule.Temporal = rule25
-activityRule ActivityRule.Data = rule26
-activityRule ActivityRule.Eligible = rule27
 
 abbrev pub activityName : ActivityRule → RuleRefusal
 activityName ActivityRule.Window = RuleRefusal.Window
@@ -33,6 +26,9 @@ activityName ActivityRule.Span = RuleRefusal.Span
 activityName ActivityRule.Temporal = RuleRefusal.Temporal
 activityName ActivityRule.Data = RuleRefusal.Data
 activityName ActivityRule.Eligible = RuleRefusal.Eligible
+
+abbrev pub activityRule : ActivityRule → Model → Plan → Rule
+activityRule rule = ruleOf (activityName rule)
 
 -- rule 21's last part: no active tick of a lies outside its window
 unfoldable pub noneOutside : Model → Plan → ℕ → Bool
@@ -52,20 +48,37 @@ pub record Counted (m : Model) (p : Plan) (outside : ℕ) (counts finishes ends 
   pub end-ticks : Holds m ends (p .end)
   pub delay-ticks : Holds m delays (m .delay)
 
--- the rules of activities in the order in which they are tried; from 6 on the last
-abbrev pub ruleAt : ℕ → ActivityRule
-ruleAt zero = ActivityRule.Window
-ruleAt (suc zero) = ActivityRule.Count
-ruleAt (suc (suc zero)) = ActivityRule.Deadline
-ruleAt (suc (suc (suc zero))) = ActivityRule.Span
-ruleAt (suc (suc (suc (suc zero)))) = ActivityRule.Temporal
-ruleAt (suc (suc (suc (suc (suc zero))))) = ActivityRule.Data
-ruleAt (suc (suc (suc (suc (suc (suc k)))))) = ActivityRule.Eligible
+-- the rules of activities in the order in which the code tries them
+abbrev pub activityOrder : List ActivityRule
+activityOrder =
+    ActivityRule.Window
+    ∷ ActivityRule.Count
+    ∷ ActivityRule.Deadline
+    ∷ ActivityRule.Span
+    ∷ ActivityRule.Temporal
+    ∷ ActivityRule.Data
+    ∷ ActivityRule.Eligible
+    ∷ []
 
--- the rules in the order in which the code tries them
 unfoldable pub activityRules : Model → Plan → List Rule
-activityRules m p =
-    rule21 m p ∷ rule22 m p ∷ rule23 m p ∷ rule24 m p ∷ rule25 m p ∷ rule26 m p ∷ rule27 m p ∷ []
+activityRules m p = rulesOf (map activityName activityOrder) m p
+
+-- what stands behind a rule in an order, and what stands first in one
+abbrev pub behind : ActivityRule → List ActivityRule → List ActivityRule
+behind rule [] = []
+behind rule (x ∷ xs) = cond (eqb (ruleNumber (activityName rule)) (ruleNumber (activityName x))) xs (behind rule xs)
+
+abbrev pub firstOf : List ActivityRule → Following
+firstOf [] = Following.Nothing
+firstOf (x ∷ xs) = Following.Rule x
+
+-- what is left to be tried
+abbrev pub untried : Following → List ActivityRule
+untried Following.Nothing = []
+untried (Following.Rule rule) = rule ∷ behind rule activityOrder
+
+abbrev pub untriedRules : Following → Model → Plan → List Rule
+untriedRules following m p = rulesOf (map activityName (untried following)) m p
 
 -- 28 and 29 of the plain check, 30 and 31 of the strict check
 unfoldable pub twoRules : Bool → Model → Plan → List Rule

@@ -11,7 +11,7 @@ use Rattle.schedule.specs.Bounded.{all, greatest, ones, bit, wordOf}
 use Rattle.schedule.specs.Model.{Model, priorityOf, temporally, byData}
 use Rattle.schedule.specs.Plan.{Plan}
 use Rattle.schedule.specs.Rule.{Rule}
-use Rattle.schedule.specs.Checks.{countOf, efe, waits, rule28, rule29, rule30, rule31}
+use Rattle.schedule.specs.Checks.{countOf, efe, waits, ruleOf}
 use Rattle.schedule.specs.declared.RuleRefusal.{RuleRefusal}
 use Rattle.checks.specs.declared.tables.Column.{Column}
 use Rattle.checks.specs.declared.tick.TickRule.{TickRule}
@@ -69,11 +69,14 @@ unfoldable pub outrankingOf : List ℕ → ℕ → ℕ
 outrankingOf masks word = outranking 32 (λ a. getD masks a 0) word
 
 -- rules 28 to 31 by name
+abbrev pub tickName : TickRule → RuleRefusal
+tickName TickRule.Cores = RuleRefusal.Cores
+tickName TickRule.Preemption = RuleRefusal.Preemption
+tickName TickRule.Idle = RuleRefusal.Idle
+tickName TickRule.Tie = RuleRefusal.Tie
+
 abbrev pub tickRule : TickRule → Model → Plan → Rule
-tickRule TickRule.Cores = rule28
-tickRule TickRule.Preemption = rule29
-tickRule TickRule.Idle = rule30
-tickRule TickRule.Tie = rule31
+tickRule rule = ruleOf (tickName rule)
 
 -- the two rules of the plain check and the two of the strict check: of how many are active, and by rank
 abbrev pub loadRule : Bool → TickRule
@@ -83,12 +86,6 @@ loadRule false = TickRule.Cores
 abbrev pub rankRule : Bool → TickRule
 rankRule true = TickRule.Tie
 rankRule false = TickRule.Preemption
-
-abbrev pub tickName : TickRule → RuleRefusal
-tickName TickRule.Cores = RuleRefusal.Cores
-tickName TickRule.Preemption = RuleRefusal.Preemption
-tickName TickRule.Idle = RuleRefusal.Idle
-tickName TickRule.Tie = RuleRefusal.Tie
 
 -- the activities that break one of these rules at a tick with this word, where the open ones may wait
 abbrev pub breakingOf : TickRule → ℕ → ℕ → ℕ → List ℕ → ℕ

@@ -21,7 +21,7 @@ ghost use Rattle.schedule.specs.Plan.{plan, planTiming};
 ghost use Rattle.schedule.specs.Checks.{window};
 ghost use Rattle.laws.proofs.RowLaws.{brokenMask};
 ghost use Rattle.records.specs.Reads.{passNumbers};
-ghost use Rattle.checks.specs.Rules.{activityName, activityRule, ruleAt, earlyFrom, noneOutside, Counted};
+ghost use Rattle.checks.specs.Rules.{activityName, activityRule, activityOrder, behind, firstOf, earlyFrom, noneOutside, Counted};
 
 // The rules that are tried at activities.
 pub(crate) enum ActivityRule {
@@ -39,6 +39,12 @@ pub(crate) enum ActivityRule {
     Data,
     // 27 "start ≥ efe"
     Eligible,
+}
+
+// What is tried next.
+pub(crate) enum Following {
+    Rule(ActivityRule),
+    Nothing,
 }
 
 // 21 at activity a, where a word says which activities are active outside their window.
@@ -176,18 +182,18 @@ fn breaking(
     }
 }
 
-// The rules in the order in which they are tried, 21 first; from 6 on the last.
-pub(crate) fn rule_at(k: u8) -> ActivityRule
-    ensures { λ r. ⌜ r ≡ ruleAt k ⌝ }
+// The order in which the rules are tried: what follows a rule.
+pub(crate) fn next(rule: ActivityRule) -> Following
+    ensures { λ r. ⌜ r ≡ firstOf (behind rule activityOrder) ⌝ }
 {
-    match k {
-        0 => ActivityRule::Window,
-        1 => ActivityRule::Count,
-        2 => ActivityRule::Deadline,
-        3 => ActivityRule::Span,
-        4 => ActivityRule::Temporal,
-        5 => ActivityRule::Data,
-        _ => ActivityRule::Eligible,
+    match rule {
+        ActivityRule::Window => Following::Rule(ActivityRule::Count),
+        ActivityRule::Count => Following::Rule(ActivityRule::Deadline),
+        ActivityRule::Deadline => Following::Rule(ActivityRule::Span),
+        ActivityRule::Span => Following::Rule(ActivityRule::Temporal),
+        ActivityRule::Temporal => Following::Rule(ActivityRule::Data),
+        ActivityRule::Data => Following::Rule(ActivityRule::Eligible),
+        ActivityRule::Eligible => Following::Nothing,
     }
 }
 

@@ -5,8 +5,10 @@ mod tables;
 mod tick;
 mod windows;
 
+use activity::ActivityRule;
+use activity::Following;
+use activity::next;
 use activity::over_activities;
-use activity::rule_at;
 use figures::figures_of;
 use records::Pass;
 use records::model::ModelRead;
@@ -51,16 +53,17 @@ fn activity_rules(
     requires { ⌜ Counted (model (now s)) (plan (now r)) outside (now counts) (now finishes) (now ends) (now delays) ⌝ }
     ensures { λ x. ⌜ passNumbers x ≡ firstBreak (activityRules (model (now (s .entry))) (plan (now (r .entry)))) ⌝ }
 {
-    let mut k: u8 = 0;
-    while k < 7 {
-        let rule = rule_at(k);
+    let mut following = Following::Rule(ActivityRule::Window);
+    loop {
+        let Following::Rule(rule) = following else {
+            return Pass::Holds;
+        };
         let pass = over_activities(rule, s, r, outside, counts, finishes, ends, delays);
         if let Pass::Refused(_) = pass {
             return pass;
         }
-        k += 1;
+        following = next(rule);
     }
-    Pass::Holds
 }
 
 // Rules 28 and 29 or, strictly, 30 and 31: first the rule of how many are active, then the one that compares by rank.

@@ -9,14 +9,20 @@ use mathlib.Core.List.{List, _++_}
 use mathlib.Core.Logic.{_↔_, Iff·trans, _⊎_, inl, inr}
 use mathlib.Core.Option.{some, none}
 use mathlib.Core.Path.{_≡_, refl, sym, _∙_, ap}
+use lib.Dec.{T}
 use lib.ListN.{length, drop, replicate}
 use borrow.Author.Tests.{lt-ltb, ne-eqb}
-use Rattle.schedule.specs.Rule.{Refusal, firstBreak, AllHold, FirstBroken}
+use Rattle.schedule.specs.declared.RuleRefusal.{RuleRefusal}
+use Rattle.schedule.specs.Rule.{Refusal, firstBreak, Everywhere, AllHold, FirstBroken}
 use Rattle.schedule.specs.Model.{Model, model, modelForm}
 use Rattle.schedule.specs.Timing.{deadlineRule}
 use Rattle.schedule.specs.Choice.{choice, choiceForm}
 use Rattle.schedule.specs.Plan.{Plan, plan, planForm, planBytes}
 use Rattle.schedule.specs.Checks.{
+  ruleOf,
+  plainOrder,
+  furtherOrder,
+  strictOrder,
   plainRules,
   strictRules,
   rule21,
@@ -50,7 +56,8 @@ use Rattle.schedule.specs.Answers.{
   bufferAfter,
   runBuffer,
 }
-use Rattle.laws.proofs.FirstBreak.{none-iff, some-iff, append-some, hold-append, hold-or-broken, _&_}
+use Rattle.laws.proofs.FirstBreak.{none-iff, some-iff, append-some, hold-append, hold-or-broken}
+use Rattle.laws.proofs.Named.{among, among-front, named, all-named}
 use Rattle.laws.proofs.Sound.{
   modelForm-sound,
   choiceForm-sound,
@@ -128,32 +135,45 @@ pub strict-breaks-rule : (s r : List ℕ) (x : Refusal) → AllHold (modelForm s
 strict-breaks-rule s r x hm hp =
     verdict-refused _ (strictVerdict s r) _ x (strictRules-sound (model s) (plan r)) (strict-past-form s r hm hp)
 
+-- What the rules of the plain check say by name is what Keeps writes out.
+says-plain : (m : Model) (p : Plan) → ((name : RuleRefusal) → T (among name plainOrder) → Everywhere (ruleOf name m p))
+    → KeepsPlain m p
+unfolding rule21 rule22 rule23 rule24 rule25 rule26 rule27 rule28 rule29 deadlineRule
+says-plain m p says = record {
+  window = λ a l. says RuleRefusal.Window tt a 0 l (omega arith);
+  duration = λ a l. says RuleRefusal.Count tt a 0 l (omega arith);
+  deadline = λ a l. says RuleRefusal.Deadline tt a 0 l (omega arith);
+  span = λ a l. says RuleRefusal.Span tt a 0 l (omega arith);
+  temporal = says RuleRefusal.Temporal tt;
+  by-data = says RuleRefusal.Data tt;
+  eligible = λ a l. says RuleRefusal.Eligible tt a 0 l (omega arith);
+  cores = λ t l. says RuleRefusal.Cores tt t 0 l (omega arith);
+  priority = says RuleRefusal.Preemption tt;
+}
+
+-- And back, for an order with or without 30 and 31.
+keeps-named : (m : Model) (p : Plan) (names : List RuleRefusal) → KeepsPlain m p
+    → (T (among RuleRefusal.Idle names) → Everywhere (rule30 m p)) → (T (among RuleRefusal.Tie names) → Everywhere (rule31 m p))
+    → (name : RuleRefusal) → T (among name names) → Everywhere (ruleOf name m p)
+unfolding rule21 rule22 rule23 rule24 rule25 rule26 rule27 rule28 rule29 deadlineRule
+keeps-named m p names k idle tie RuleRefusal.Window _ = λ a _ l _. k .window a l
+keeps-named m p names k idle tie RuleRefusal.Count _ = λ a _ l _. k .duration a l
+keeps-named m p names k idle tie RuleRefusal.Deadline _ = λ a _ l _. k .deadline a l
+keeps-named m p names k idle tie RuleRefusal.Span _ = λ a _ l _. k .span a l
+keeps-named m p names k idle tie RuleRefusal.Temporal _ = k .temporal
+keeps-named m p names k idle tie RuleRefusal.Data _ = k .by-data
+keeps-named m p names k idle tie RuleRefusal.Eligible _ = λ a _ l _. k .eligible a l
+keeps-named m p names k idle tie RuleRefusal.Cores _ = λ t _ l _. k .cores t l
+keeps-named m p names k idle tie RuleRefusal.Preemption _ = k .priority
+keeps-named m p names k idle tie RuleRefusal.Idle among = idle among
+keeps-named m p names k idle tie RuleRefusal.Tie among = tie among
+
 -- Rules 21 to 29 hold, as a list, exactly where the plan keeps them as crate schedule, Keeps, writes them out.
 pub plain-keeps : (m : Model) (p : Plan) → AllHold (plainRules m p) ↔ KeepsPlain m p
-unfolding plainRules rule21 rule22 rule23 rule24 rule25 rule26 rule27 rule28 rule29 deadlineRule
+unfolding plainRules
 plain-keeps m p = (
-  λ h. record {
-    window = λ a l. h .0 a 0 l (omega arith);
-    duration = λ a l. h .1 .0 a 0 l (omega arith);
-    deadline = λ a l. h .1 .1 .0 a 0 l (omega arith);
-    span = λ a l. h .1 .1 .1 .0 a 0 l (omega arith);
-    temporal = h .1 .1 .1 .1 .0;
-    by-data = h .1 .1 .1 .1 .1 .0;
-    eligible = λ a l. h .1 .1 .1 .1 .1 .1 .0 a 0 l (omega arith);
-    cores = λ t l. h .1 .1 .1 .1 .1 .1 .1 .0 t 0 l (omega arith);
-    priority = h .1 .1 .1 .1 .1 .1 .1 .1 .0;
-  },
-  λ k.
-      (λ a _ l _. k .window a l)
-      & (λ a _ l _. k .duration a l)
-      & (λ a _ l _. k .deadline a l)
-      & (λ a _ l _. k .span a l)
-      & k .temporal
-      & k .by-data
-      & (λ a _ l _. k .eligible a l)
-      & (λ t _ l _. k .cores t l)
-      & k .priority
-      & tt,
+  λ h. says-plain m p (named m p plainOrder h),
+  λ k. all-named m p plainOrder (keeps-named m p plainOrder k (λ t. absurd t) (λ t. absurd t)),
 )
 
 -- Rules 21 to 31 hold, as a list, exactly where the plan keeps them as crate schedule, Keeps, writes them out.
@@ -161,9 +181,13 @@ pub strict-keeps : (m : Model) (p : Plan) → AllHold (strictRules m p) ↔ Keep
 unfolding strictRules rule30 rule31
 strict-keeps m p = (
   λ h.
-      let both = hold-append (plainRules m p) _ .0 h in
-      record { plain = plain-keeps m p .0 (both .0); idle = both .1 .0; tie = both .1 .1 .0 },
-  λ k. hold-append (plainRules m p) _ .1 (plain-keeps m p .1 (k .plain) & k .idle & k .tie & tt),
+      let says = named m p strictOrder h in
+      record {
+        plain = says-plain m p (λ name t. says name (among-front name plainOrder furtherOrder t));
+        idle = says RuleRefusal.Idle tt;
+        tie = says RuleRefusal.Tie tt;
+      },
+  λ k. all-named m p strictOrder (keeps-named m p strictOrder (k .plain) (λ _. k .idle) (λ _. k .tie)),
 )
 
 -- So on well-formed records the plain check passes, with the plan's figures, exactly where the plan keeps 21 to 29.

@@ -10,6 +10,7 @@ use mathlib.Core.Path.{_≡_, refl, sym, subst, ap, _∙_}
 use lib.ListN.{length, take, drop}
 use lib.Pow.{pow-mono}
 use lib.Seq.{take-at}
+use Rattle.schedule.specs.declared.RunRefusal.{RunRefusal}
 use Rattle.schedule.specs.Fields.{Bytes}
 use Rattle.schedule.specs.Rule.{AllHold}
 use Rattle.schedule.specs.Model.{model, modelForm}
@@ -19,10 +20,11 @@ use Rattle.schedule.specs.Plan.{plan, planTiming, planForm, planBytes}
 use Rattle.schedule.specs.Machine.{machineWord, machineStart, machineEnd, machineOwes}
 use Rattle.schedule.specs.Keeps.{KeepsStrict}
 use Rattle.schedule.specs.Answers.{accepted, Figures, figures, strictChecks, machinePlan, owedRule, runRules, Written, lengthNeeded, runChecks, runAnswer}
+use Rattle.schedule.specs.Numbers.{runNumber}
 use Rattle.laws.proofs.FieldLaws.{field-lt}
 use Rattle.laws.proofs.PlanBytes.{Fits, ReadsBack, reads-back, length-planBytes, bytes-planBytes}
 use Rattle.laws.proofs.PlanForm.{form-says, written-form, parts-determine}
-use Rattle.laws.proofs.FirstBreak.{hold-append, _&_}
+use Rattle.laws.proofs.FirstBreak.{hold-append, says, _&_}
 use Rattle.laws.proofs.Deadlines.{in-time-same}
 use Rattle.laws.proofs.VerdictLaws.{accepted-is-not-refused}
 use Rattle.laws.proofs.Words.{bit-high}
@@ -78,12 +80,12 @@ module _ (s q : List ℕ) (q-bytes : Bytes q) (formed : AllHold (modelForm s))
   module _ (settles : AllHold (runRules (model s) (choice q))) where
     settled : (a : ℕ) → a < model s .activities → machineOwes (model s) (choice q .release) (choice q .duration) a ≡ 0
     unfolding runRules owedRule
-    settled a l = settles .0 a 0 l (omega arith)
+    settled a l = says (runNumber RunRefusal.Owed) (runRules (model s) (choice q)) settles a 0 l (omega arith)
 
     in-time : (a : ℕ) → a < model s .activities
         → InTime (model s) (choiceTiming (choice q)) (machineEnd (model s) (choice q .release) (choice q .duration)) a
-    unfolding runRules deadlineRule
-    in-time a l = settles .1 .0 a 0 l (omega arith)
+    unfolding runRules owedRule deadlineRule
+    in-time a l = says (runNumber RunRefusal.Late) (runRules (model s) (choice q)) settles a 0 l (omega arith)
 
     pub machine-fits : Fits (machinePlan (model s) (choice q))
     unfolding machinePlan machineStart machineEnd machineOwes

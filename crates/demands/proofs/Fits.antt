@@ -10,6 +10,7 @@ use mathlib.Core.Logic.{⊎-elim}
 use mathlib.Core.Path.{_≡_, refl, ap, subst, _∙_}
 use lib.ListN.{length, length-append, length-replicate, replicate}
 use Rattle.schedule.specs.Bounded.{bit, ones}
+use Rattle.schedule.specs.declared.FormRefusal.{FormRefusal}
 use Rattle.schedule.specs.Fields.{Bytes}
 use Rattle.schedule.specs.Rule.{Rule, Refusal, AllHold, FirstBroken}
 use Rattle.schedule.specs.Model.{
@@ -30,6 +31,8 @@ use Rattle.schedule.specs.Timing.{deadlineRule}
 use Rattle.schedule.specs.Choice.{Choice, choice, choiceForm, choiceCounts, rangeRule, durationRule}
 use Rattle.schedule.specs.Plan.{Plan, plan, planForm, planCounts, wordRule}
 use Rattle.schedule.specs.Checks.{
+  rulesOf,
+  furtherOrder,
   plainRules,
   strictRules,
   rule21,
@@ -66,7 +69,8 @@ use Rattle.schedule.specs.Streams.{taken, firstRecord, secondRecord}
 use Rattle.schedule.specs.Lines.{runRoom, runLines, gridcheck, gridrun}
 use Rattle.laws.proofs.Counting.{count-le}
 use Rattle.laws.proofs.Sums.{greatest-bound, total-bound}
-use Rattle.laws.proofs.FirstBreak.{AllSound, some-iff, append-some, sound-append, hold-append, hold-or-broken}
+use Rattle.schedule.specs.Numbers.{formNumber}
+use Rattle.laws.proofs.FirstBreak.{AllSound, some-iff, append-some, sound-append, hold-append, hold-or-broken, says}
 use Rattle.laws.proofs.Sound.{plainChecks-sound, strictChecks-sound, runChecks-sound}
 use Rattle.laws.proofs.RuleNumbers.{AllRules, rules-append, first-broken-rule}
 use Rattle.laws.proofs.LinesLaws.{second-bytes}
@@ -120,8 +124,8 @@ abbrev Limited : Model → Type 0
 Limited m = (Within 1 8 (m .cores) × Within 1 8 (m .threads)) × (Within 1 32 (m .activities) × Within 1 4096 (m .horizon))
 
 limited : (s : List ℕ) → AllHold (sizing s) → Limited (model s)
-unfolding limitsRule
-limited s h = h .1 .1 .0 0 0 (omega arith) (omega arith)
+unfolding lengthRule versionRule limitsRule
+limited s h = says (formNumber FormRefusal.ModelLimits) (sizing s) h 0 0 (omega arith) (omega arith)
 
 sizing-narrow : (s : List ℕ) → AllRules Narrow (sizing s)
 unfolding lengthRule versionRule limitsRule
@@ -157,8 +161,9 @@ unfolding plainRules rule21 rule22 rule23 rule24 rule25 rule26 rule27 rule28 rul
 plain-narrow m p l = omega arith
 
 strict-narrow : (m : Model) (p : Plan) → Limited m → AllRules Narrow (strictRules m p)
-unfolding strictRules rule30 rule31
-strict-narrow m p l = rules-append Narrow (plainRules m p) _ (plain-narrow m p l) (omega arith)
+unfolding plainRules strictRules rule30 rule31
+strict-narrow m p l =
+    rules-append Narrow (plainRules m p) (rulesOf furtherOrder m p) (plain-narrow m p l) (omega arith)
 
 choice-narrow : (m : Model) (q : List ℕ) → Limited m → AllRules Narrow (choiceForm m q)
 unfolding choiceForm lengthRule versionRule formulaRule choiceCounts rangeRule durationRule
@@ -171,8 +176,8 @@ run-narrow m q l = omega arith
 -- ---- figures
 
 form-limited : (s : List ℕ) → AllHold (modelForm s) → Limited (model s)
-unfolding modelForm limitsRule
-form-limited s h = h .1 .1 .0 0 0 (omega arith) (omega arith)
+unfolding modelForm lengthRule versionRule limitsRule
+form-limited s h = says (formNumber FormRefusal.ModelLimits) (modelForm s) h 0 0 (omega arith) (omega arith)
 
 -- what the plain check passes has figures below a hundred and fifty thousand
 pass-short : (s r : List ℕ) → AllHold (plainChecks s r) → ShortFigures (figures (model s) (plan r))

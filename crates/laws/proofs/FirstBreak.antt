@@ -8,7 +8,7 @@ use mathlib.Core.List.{List, [], _∷_, _++_}
 use mathlib.Core.Logic.{_⊎_, inl, inr, _↔_, ⊎-elim, Iff·and, Iff·trans}
 use mathlib.Core.Option.{Option, some, none, Option·some-ne-none, Option·none-ne-some, Option·some-injective}
 use mathlib.Core.Path.{_≡_, refl, sym, _∙_, ap, subst}
-use lib.Dec.{T}
+use lib.Dec.{T, eqb}
 use Rattle.schedule.specs.Bounded.{first}
 use Rattle.schedule.specs.Rule.{Rule, Refusal, break, firstBreak, Everywhere, AllHold, BrokenAt, FirstBroken}
 use Rattle.laws.proofs.Tests.{below-suc, up-to}
@@ -225,6 +225,25 @@ sound-append (r ∷ xs) ys = regroup (sound-append xs ys)
 pub hold-append : (xs ys : List Rule) → AllHold (xs ++ ys) ↔ (AllHold xs × AllHold ys)
 hold-append [] ys = (λ h. (tt, h), λ h. h .1)
 hold-append (r ∷ xs) ys = regroup (hold-append xs ys)
+
+-- one statement or another, by a test
+abbrev Picked : Bool → Type 0 → Type 0 → Type 0
+Picked true P Q = P
+Picked false P Q = Q
+
+-- what the rule of a list says that has a number, and nothing where none has it
+abbrev pub Says : ℕ → List Rule → Type 0
+Says number [] = Unit {0}
+Says number (r ∷ rs) = Picked (eqb (r .number) number) (Everywhere r) (Says number rs)
+
+picked : (t : Bool) (P Q : Type 0) → P → Q → Picked t P Q
+picked true P Q p q = p
+picked false P Q p q = q
+
+-- where all rules of a list hold, so does the one with that number
+pub says : (number : ℕ) (rules : List Rule) → AllHold rules → Says number rules
+says number [] h = tt
+says number (r ∷ rs) h = picked (eqb (r .number) number) (Everywhere r) (Says number rs) (h .0) (says number rs (h .1))
 
 found : (rules : List Rule) (x : Refusal) → AllSound rules → firstBreak rules ≡ some x → FirstBroken rules x
 unfolding firstBreak

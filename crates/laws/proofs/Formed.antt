@@ -4,12 +4,27 @@ use Prim.Native.Nat.{ℕ, _+_, _≤_, _<_}
 use native.Mathlib.Decide.{decLt}
 use native.Mathlib.Omega.{arith}
 use mathlib.Core.List.{List}
+use Rattle.schedule.specs.declared.FormRefusal.{FormRefusal}
 use Rattle.schedule.specs.Fields.{Bytes}
 use Rattle.schedule.specs.Rule.{AllHold}
-use Rattle.schedule.specs.Model.{Model, model, modelForm, limitsRule, activityRule, maskRule, Within}
-use Rattle.schedule.specs.Choice.{Choice, choice, choiceThreadRow, choiceForm, rangeRule, durationRule}
+use Rattle.schedule.specs.Model.{
+  Model,
+  model,
+  lengthRule,
+  versionRule,
+  formulaRule,
+  limitsRule,
+  threadRule,
+  activityRule,
+  maskRule,
+  modelForm,
+  Within,
+}
+use Rattle.schedule.specs.Choice.{Choice, choice, choiceThreadRow, choiceCounts, rangeRule, durationRule, choiceForm}
+use Rattle.schedule.specs.Numbers.{formNumber}
 use Rattle.laws.proofs.EfeLaws.{Ordered}
 use Rattle.laws.proofs.FieldLaws.{field-lt}
+use Rattle.laws.proofs.FirstBreak.{says}
 
 -- rules 3, 6 and 7
 pub record Formed (m : Model) : Type 0 where
@@ -21,11 +36,11 @@ pub record Formed (m : Model) : Type 0 where
   pub ordered : Ordered m
 
 pub model-says : (s : List ℕ) → AllHold (modelForm s) → Formed (model s)
-unfolding modelForm limitsRule activityRule maskRule
+unfolding modelForm lengthRule versionRule limitsRule formulaRule threadRule activityRule maskRule
 model-says s h =
-    let limits = h .1 .1 .0 0 0 (omega arith) (omega arith) in
-    let rows = h .1 .1 .1 .1 .1 .0 in
-    let masks = h .1 .1 .1 .1 .1 .1 .0 in
+    let limits = says (formNumber FormRefusal.ModelLimits) (modelForm s) h 0 0 (omega arith) (omega arith) in
+    let rows = says (formNumber FormRefusal.ActivityRow) (modelForm s) h in
+    let masks = says (formNumber FormRefusal.MaskRow) (modelForm s) h in
     record {
       threads = limits .0 .1;
       activities = limits .1 .0;
@@ -54,10 +69,10 @@ pub record Chosen (m : Model) (q : Choice) : Type 0 where
   pub period-lt : (j : ℕ) → q .period j < 65536
 
 pub choice-says : (m : Model) (q : List ℕ) → Bytes q → AllHold (choiceForm m q) → Chosen m (choice q)
-unfolding choiceForm rangeRule durationRule choice
+unfolding choiceForm lengthRule versionRule choiceCounts formulaRule rangeRule durationRule choice
 choice-says m q b h = record {
-  in-range = λ j l. h .1 .1 .1 .1 .0 j 0 l (omega arith);
-  duration = λ a l. h .1 .1 .1 .1 .1 .0 a 0 l (omega arith);
+  in-range = λ j l. says (formNumber FormRefusal.ThreadChoice) (choiceForm m q) h j 0 l (omega arith);
+  duration = λ a l. says (formNumber FormRefusal.DurationChoice) (choiceForm m q) h a 0 l (omega arith);
   release-lt = λ j. field-lt q b (choiceThreadRow j) 2;
   period-lt = λ j. field-lt q b (choiceThreadRow j + 2) 2;
 }

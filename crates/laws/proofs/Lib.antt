@@ -20,6 +20,7 @@ pub mod EfeLaws
 pub mod Unique
 pub mod Exists
 pub mod NumbersLaws
+pub mod Named
 pub mod LinesLaws
 pub mod LineLengths
 pub mod RowLaws

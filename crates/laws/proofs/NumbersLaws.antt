@@ -1,10 +1,10 @@
 -- Equal numbers and values mean equal answers: each map of crate schedule's Numbers is undone by a map back.
 -- Assumes nothing.
-use Prim.Native.Nat.{_-_}
+use Prim.Native.Nat.{ℕ, _-_}
 use mathlib.Core.Bool.{cond}
 use mathlib.Core.List.{List, [], _∷_}
 use mathlib.Core.Path.{_≡_, refl, sym, ap, _∙_}
-use lib.Dec.{ltb}
+use lib.Dec.{eqb, ltb}
 use lib.ListN.{getD}
 use Rattle.schedule.specs.declared.Place.{Place}
 use Rattle.schedule.specs.declared.FormRefusal.{FormRefusal}
@@ -22,10 +22,11 @@ use Rattle.schedule.specs.declared.RuleRefusal.the-variants.{Window, Count, Dea
 use Rattle.schedule.specs.declared.RuleRefusal.the-variants.{Eligible, Cores, Preemption, Idle, Tie}
 use Rattle.schedule.specs.declared.RunRefusal.the-variants.{Room, Owed, Late}
 use Rattle.schedule.specs.Rule
+use Rattle.schedule.specs.Checks.{strictOrder}
 use Rattle.schedule.specs.Answers
 use Rattle.schedule.specs.Answers.{Answer, accepted, refused}
 use Rattle.schedule.specs.Streams.{WordOrPast, word, past}
-use Rattle.schedule.specs.Numbers.{refusalNumbers, verdictNumbers}
+use Rattle.schedule.specs.Numbers.{ruleNumber, refusalNumbers, verdictNumbers}
 use Rattle.schedule.specs.Numbers.{runNumbers, wordNumbers}
 
 -- a map that another undoes takes no two things to one
@@ -39,19 +40,20 @@ forms =
     ModelSize ∷ ModelVersion ∷ ModelLimits ∷ ModelFormula ∷ ThreadRow ∷ ActivityRow ∷ MaskRow ∷ SecondSize
     ∷ SecondVersion ∷ SecondCounts ∷ SecondFormula ∷ ThreadChoice ∷ DurationChoice ∷ WordBits ∷ []
 
-abbrev rules : List RuleRefusal
-rules =
-    Window ∷ Count ∷ Deadline ∷ Span ∷ Temporal ∷ Data ∷ Eligible ∷ Cores ∷ Preemption ∷ Idle ∷ Tie ∷ []
-
 abbrev runs : List RunRefusal
 runs = Room ∷ Owed ∷ Late ∷ []
+
+-- the rule of an order that has a number
+abbrev numbered : ℕ → List RuleRefusal → RuleRefusal
+numbered number [] = Window
+numbered number (x ∷ xs) = cond (eqb (ruleNumber x) number) x (numbered number xs)
 
 -- a refusal from its number and place: 1 to 14 are of form, 21 to 31 rules, 41 to 43 of the run
 abbrev refusalOf : Rule.Refusal → Refusal
 refusalOf x =
     let at : Place = record { a = x .A; b = x .B } in
     cond (ltb (x .number) 21) (Refusal.Form (getD forms (x .number - 1) ModelSize) at)
-    (cond (ltb (x .number) 41) (Refusal.Rule (getD rules (x .number - 21) Window) at)
+    (cond (ltb (x .number) 41) (Refusal.Rule (numbered (x .number) strictOrder) at)
     (Refusal.Run (getD runs (x .number - 41) Room) at))
 
 form-undone : (why : FormRefusal) (at : Place) → refusalOf (refusalNumbers (Refusal.Form why at)) ≡ Refusal.Form why at
@@ -127,6 +129,14 @@ word-undone WordAt.Past = refl
 -- equal numbers and values mean equal answers
 pub refusal-injective : (x y : Refusal) → refusalNumbers x ≡ refusalNumbers y → x ≡ y
 refusal-injective = undone-injective refusalNumbers refusalOf refusal-undone
+
+-- two rules of one number are one
+pub rule-injective : (x y : RuleRefusal) → ruleNumber x ≡ ruleNumber y → x ≡ y
+rule-injective x y e =
+    let at : Place = record { a = 0; b = 0 } in
+    let same : Refusal.Rule x at ≡ Refusal.Rule y at =
+    refusal-injective (Refusal.Rule x at) (Refusal.Rule y at) (ap (λ (k : ℕ). record { number = k; A = 0; B = 0 }) e) in
+    cc
 
 pub verdict-injective : (x y : Verdict) → verdictNumbers x ≡ verdictNumbers y → x ≡ y
 verdict-injective = undone-injective verdictNumbers verdictOf verdict-undone

@@ -9,12 +9,15 @@ use mathlib.Core.Path.{_≡_, sym, _∙_}
 use lib.Dec.{T}
 use lib.ListN.{length}
 use lib.Seq.{ext-getD}
+use Rattle.schedule.specs.declared.FormRefusal.{FormRefusal}
 use Rattle.schedule.specs.Fields.{field, pairRow, Bytes}
 use Rattle.schedule.specs.Rule.{AllHold}
 use Rattle.schedule.specs.Model.{Model, lengthRule, versionRule, formulaRule, Within}
 use Rattle.schedule.specs.Choice.{rangeRule}
 use Rattle.schedule.specs.Plan.{Plan, plan, active, planBytes, planForm, planCounts, wordRule}
 use Rattle.schedule.specs.Plan.{planThreadRow, gridAt, tickAt, planLength}
+use Rattle.schedule.specs.Numbers.{formNumber}
+use Rattle.laws.proofs.FirstBreak.{says}
 use Rattle.laws.proofs.Parts.{Alike, alike-join, alike-field, alike-rows}
 use Rattle.laws.proofs.PlanBytes.{Fits, ReadsBack, reads-back, length-planBytes}
 
@@ -41,18 +44,18 @@ pub record WellFormed (m : Model) (r : List ℕ) : Type 0 where
 pub form-says : (m : Model) (r : List ℕ) → AllHold (planForm m r) → WellFormed m r
 unfolding planForm lengthRule versionRule planCounts formulaRule rangeRule wordRule
 form-says m r h =
-    let sized = h .0 0 0 (omega arith) (omega arith) in
-    let counts = h .1 .1 .0 0 0 (omega arith) (omega arith) in
-    let formula = h .1 .1 .1 .0 0 0 (omega arith) (omega arith) in
+    let sized = says (formNumber FormRefusal.SecondSize) (planForm m r) h 0 0 (omega arith) (omega arith) in
+    let counts = says (formNumber FormRefusal.SecondCounts) (planForm m r) h 0 0 (omega arith) (omega arith) in
+    let formula = says (formNumber FormRefusal.SecondFormula) (planForm m r) h 0 0 (omega arith) (omega arith) in
     record {
       length = omega arith;
       stated = omega arith;
-      version = h .1 .0 0 0 (omega arith) (omega arith);
+      version = says (formNumber FormRefusal.SecondVersion) (planForm m r) h 0 0 (omega arith) (omega arith);
       threads = counts .0 .0;
       activities = counts .0 .1;
       horizon = counts .1;
-      in-range = λ j l. h .1 .1 .1 .1 .0 j 0 l (omega arith);
-      words-within = λ t l. h .1 .1 .1 .1 .1 .0 t 0 l (omega arith);
+      in-range = λ j l. says (formNumber FormRefusal.ThreadChoice) (planForm m r) h j 0 l (omega arith);
+      words-within = λ t l. says (formNumber FormRefusal.WordBits) (planForm m r) h t 0 l (omega arith);
     }
 
 -- and back

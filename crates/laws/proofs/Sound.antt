@@ -1,9 +1,10 @@
 -- Each test of the definitions decides the statement that stands beside it, rule by rule and list by list.
 -- Assumes nothing.
 use Prim.Native.Nat.{ℕ}
-use mathlib.Core.List.{List, _++_}
+use mathlib.Core.List.{List, [], _∷_, _++_}
 use mathlib.Core.Logic.{_↔_, Iff·rfl}
 use lib.Dec.{T}
+use Rattle.schedule.specs.declared.RuleRefusal.{RuleRefusal}
 use Rattle.schedule.specs.Rule.{Rule}
 use Rattle.schedule.specs.Model.{
   Model,
@@ -25,6 +26,10 @@ use Rattle.schedule.specs.Checks.{
   window,
   Waiting,
   waits,
+  ruleOf,
+  rulesOf,
+  plainOrder,
+  strictOrder,
   plainRules,
   strictRules,
   rule21,
@@ -42,7 +47,7 @@ use Rattle.schedule.specs.Checks.{
 use Rattle.schedule.specs.Answers.{owedRule, runRules, plainChecks, strictChecks, runChecks}
 use Rattle.laws.proofs.Tests.{tests}
 use Rattle.laws.proofs.Deadlines.{in-time-sound}
-use Rattle.laws.proofs.FirstBreak.{AllSound, sound-append, _&_}
+use Rattle.laws.proofs.FirstBreak.{Sound, AllSound, sound-append, _&_}
 
 -- the two statements that are records, by their parts
 pub window-sound : (m : Model) (p : Plan) (a : ℕ) → T (window m p a) ↔ Window m p a
@@ -91,13 +96,32 @@ pub planForm-sound : (m : Model) (r : List ℕ) → AllSound (planForm m r)
 unfolding planForm lengthRule versionRule planCounts formulaRule rangeRule wordRule
 planForm-sound m r = simp whole (same _ & same _ & same _ & same _ & same _ & same _ & tt)
 
+-- the rules of the checks by name, and those of an order
+rule-sound : (name : RuleRefusal) (m : Model) (p : Plan) → Sound (ruleOf name m p)
+unfolding rule21 rule22 rule23 deadlineRule rule24 rule25 rule26 rule27 rule28 rule29 rule30 rule31
+rule-sound RuleRefusal.Window m p = simp whole (same _)
+rule-sound RuleRefusal.Count m p = simp whole (same _)
+rule-sound RuleRefusal.Deadline m p = simp whole (same _)
+rule-sound RuleRefusal.Span m p = simp whole (same _)
+rule-sound RuleRefusal.Temporal m p = simp whole (same _)
+rule-sound RuleRefusal.Data m p = simp whole (same _)
+rule-sound RuleRefusal.Eligible m p = simp whole (same _)
+rule-sound RuleRefusal.Cores m p = simp whole (same _)
+rule-sound RuleRefusal.Preemption m p = simp whole (same _)
+rule-sound RuleRefusal.Idle m p = simp whole (same _)
+rule-sound RuleRefusal.Tie m p = simp whole (same _)
+
+rules-sound : (names : List RuleRefusal) (m : Model) (p : Plan) → AllSound (rulesOf names m p)
+rules-sound [] m p = tt
+rules-sound (name ∷ names) m p = rule-sound name m p & rules-sound names m p
+
 pub plainRules-sound : (m : Model) (p : Plan) → AllSound (plainRules m p)
-unfolding plainRules rule21 rule22 rule23 deadlineRule rule24 rule25 rule26 rule27 rule28 rule29
-plainRules-sound m p = simp whole (same _ & same _ & same _ & same _ & same _ & same _ & same _ & same _ & same _ & tt)
+unfolding plainRules
+plainRules-sound m p = rules-sound plainOrder m p
 
 pub strictRules-sound : (m : Model) (p : Plan) → AllSound (strictRules m p)
-unfolding strictRules rule30 rule31
-strictRules-sound m p = sound-append (plainRules m p) _ .1 (plainRules-sound m p & simp whole (same _ & same _ & tt))
+unfolding strictRules
+strictRules-sound m p = rules-sound strictOrder m p
 
 pub runRules-sound : (m : Model) (q : Choice) → AllSound (runRules m q)
 unfolding runRules owedRule deadlineRule

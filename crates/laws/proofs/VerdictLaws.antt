@@ -1,7 +1,7 @@
 -- What the verdict on a list of rules says of the rules, and of the rules that stand behind the two records' form.
 -- Assumes nothing.
 use Prim.Native.Nat.{ℕ, _≤_}
-use mathlib.Core.List.{List, [], _∷_, _++_, append-assoc}
+use mathlib.Core.List.{List, _++_, append-assoc}
 use mathlib.Core.Logic.{_↔_, Iff·and, Iff·trans, Iff·rfl}
 use mathlib.Core.Option.{Option, some, none, Option·some-ne-none, Option·none-ne-some}
 use mathlib.Core.Path.{_≡_, refl, sym, _∙_, ap}
@@ -11,7 +11,7 @@ use Rattle.schedule.specs.Rule.{Rule, Refusal, firstBreak, AllHold, FirstBroken
 use Rattle.schedule.specs.Model.{Model, model, modelForm}
 use Rattle.schedule.specs.Choice.{Choice, choice}
 use Rattle.schedule.specs.Plan.{plan, planForm}
-use Rattle.schedule.specs.Checks.{plainRules, strictRules, rule30, rule31}
+use Rattle.schedule.specs.Checks.{rulesOf, plainOrder, furtherOrder, plainRules, strictRules}
 use Rattle.schedule.specs.Answers.{
   Answer,
   accepted,
@@ -31,6 +31,7 @@ use Rattle.schedule.specs.Answers.{
   runAnswer,
 }
 use Rattle.laws.proofs.FirstBreak.{AllSound, none-iff, some-iff, append-none}
+use Rattle.laws.proofs.Named.{rulesOf-append}
 use Rattle.laws.proofs.Sound.{modelForm-sound, planForm-sound, runChecks-sound}
 
 -- a call answers a pass, or a refusal, and never both
@@ -95,11 +96,10 @@ verdict-refused rules verdict pass x s e = (
   λ h. e ∙ answer-refused rules pass x s .1 h,
 )
 
--- the strict check's rules are the plain check's and two more
-pub strict-extends : (s r : List ℕ)
-    → strictChecks s r ≡ plainChecks s r ++ (rule30 (model s) (plan r) ∷ rule31 (model s) (plan r) ∷ [])
-unfolding strictChecks plainChecks strictRules
-strict-extends s r = simp append-assoc
+-- the strict check's rules are the plain check's and some more
+pub strict-extends : (s r : List ℕ) → strictChecks s r ≡ plainChecks s r ++ rulesOf furtherOrder (model s) (plan r)
+unfolding strictChecks plainChecks strictRules plainRules
+strict-extends s r = rw (rulesOf-append (model s) (plan r) plainOrder furtherOrder) (simp append-assoc)
 
 -- what a successful run answers
 abbrev pub written : Model → Choice → Written

@@ -19,8 +19,20 @@ use Rattle.schedule.specs.Rule.{Rule, Refusal, break, firstBreak}
 use Rattle.schedule.specs.declared.Figures.{Figures as Shown}
 use Rattle.schedule.specs.declared.Refusal.{Refusal as Declared}
 use Rattle.schedule.specs.declared.RunVerdict.{RunVerdict}
-use Rattle.schedule.specs.Numbers.{refusalNumbers, figureNumbers, runNumbers}
-use Rattle.schedule.specs.Model.{Model, model, modelForm, limitsRule, maskRule}
+use Rattle.schedule.specs.declared.FormRefusal.{FormRefusal}
+use Rattle.schedule.specs.Numbers.{formNumber, refusalNumbers, figureNumbers, runNumbers}
+use Rattle.schedule.specs.Model.{
+  Model,
+  model,
+  lengthRule,
+  versionRule,
+  formulaRule,
+  limitsRule,
+  threadRule,
+  activityRule,
+  maskRule,
+  modelForm,
+}
 use Rattle.schedule.specs.Choice.{Choice, choice, choiceTiming, choiceForm}
 use Rattle.schedule.specs.Plan.{planBytes, pairRows, tickAt, wordIn}
 use Rattle.schedule.specs.Machine.{owes, endOf, initial, stateAt, machineWord, machineStart, machineEnd}
@@ -37,7 +49,7 @@ use Rattle.laws.proofs.Sums.{total-ext, greatest-ext}
 use Rattle.laws.proofs.MachineLaws.{end-next, word-lt, getD-table}
 use Rattle.laws.proofs.PlanBytes.{length-pairs, length-planBytes}
 use Rattle.laws.proofs.VerdictLaws.{written}
-use Rattle.laws.proofs.FirstBreak.{none-iff, some-iff, append-none, append-some, rule-stops, rule-goes-on}
+use Rattle.laws.proofs.FirstBreak.{none-iff, some-iff, append-none, append-some, rule-stops, rule-goes-on, says}
 use Rattle.laws.proofs.Sound.{modelForm-sound, runChecks-sound, runRules-sound}
 use Rattle.laws.proofs.RuleNumbers.{first-broken-number, input-numbers, run-numbers}
 use Rattle.fields.specs.Put.{put}
@@ -418,11 +430,11 @@ module _ (s q : List ℕ) where
 
 -- a model that meets its form runs
 pub form-runs : (s : List ℕ) → Bytes s → firstBreak (modelForm s) ≡ none → Runs (model s)
-unfolding modelForm limitsRule maskRule model
+unfolding modelForm lengthRule versionRule limitsRule formulaRule threadRule activityRule maskRule model
 form-runs s b e =
     let h = none-iff (modelForm s) (modelForm-sound s) .0 e in
-    let limits = h .1 .1 .0 0 0 (omega arith) (omega arith) in
-    let masks = h .1 .1 .1 .1 .1 .1 .0 in
+    let limits = says (formNumber FormRefusal.ModelLimits) (modelForm s) h 0 0 (omega arith) (omega arith) in
+    let masks = says (formNumber FormRefusal.MaskRow) (modelForm s) h in
     record {
       threads = limits .0 .1;
       few = limits .1 .0 .1;

@@ -6,6 +6,7 @@ use mathlib.Core.List.{List, [], _∷_, _++_}
 use mathlib.Core.Path.{_≡_}
 use lib.Dec.{T, eqb, leb, ltb}
 use lib.ListN.{getD}
+use Rattle.schedule.specs.declared.RuleRefusal.{RuleRefusal}
 use Rattle.schedule.specs.Bounded.{all, count, greatest, ones, _⇒_}
 use Rattle.schedule.specs.Rule.{Rule}
 use Rattle.schedule.specs.Model.{Model, priorityOf, temporally, byData, Within, within}
@@ -171,11 +172,48 @@ rule31 m p = record {
       ⇒ all (m .activities) (λ a. active p t a ⇒ ltb b a ⇒ not (eqb (priorityOf m b) (priorityOf m a)));
 }
 
--- "The plain check ends here": rules 21 to 29
-unfoldable pub plainRules : Model → Plan → List Rule
-plainRules m p =
-    rule21 m p ∷ rule22 m p ∷ rule23 m p ∷ rule24 m p ∷ rule25 m p ∷ rule26 m p ∷ rule27 m p ∷ rule28 m p ∷ rule29 m p ∷ []
+-- the rules by their names
+abbrev pub ruleOf : RuleRefusal → Model → Plan → Rule
+ruleOf RuleRefusal.Window = rule21
+ruleOf RuleRefusal.Count = rule22
+ruleOf RuleRefusal.Deadline = rule23
+ruleOf RuleRefusal.Span = rule24
+ruleOf RuleRefusal.Temporal = rule25
+ruleOf RuleRefusal.Data = rule26
+ruleOf RuleRefusal.Eligible = rule27
+ruleOf RuleRefusal.Cores = rule28
+ruleOf RuleRefusal.Preemption = rule29
+ruleOf RuleRefusal.Idle = rule30
+ruleOf RuleRefusal.Tie = rule31
+
+-- the rules that a list names, in its order
+abbrev pub rulesOf : List RuleRefusal → Model → Plan → List Rule
+rulesOf [] m p = []
+rulesOf (name ∷ names) m p = ruleOf name m p ∷ rulesOf names m p
+
+-- "The plain check ends here": rules 21 to 29, in the order in which they are tried
+abbrev pub plainOrder : List RuleRefusal
+plainOrder =
+    RuleRefusal.Window
+    ∷ RuleRefusal.Count
+    ∷ RuleRefusal.Deadline
+    ∷ RuleRefusal.Span
+    ∷ RuleRefusal.Temporal
+    ∷ RuleRefusal.Data
+    ∷ RuleRefusal.Eligible
+    ∷ RuleRefusal.Cores
+    ∷ RuleRefusal.Preemption
+    ∷ []
 
 -- "the strict check goes on with 30 and 31"
+abbrev pub furtherOrder : List RuleRefusal
+furtherOrder = RuleRefusal.Idle ∷ RuleRefusal.Tie ∷ []
+
+abbrev pub strictOrder : List RuleRefusal
+strictOrder = plainOrder ++ furtherOrder
+
+unfoldable pub plainRules : Model → Plan → List Rule
+plainRules m p = rulesOf plainOrder m p
+
 unfoldable pub strictRules : Model → Plan → List Rule
-strictRules m p = plainRules m p ++ (rule30 m p ∷ rule31 m p ∷ [])
+strictRules m p = rulesOf strictOrder m p
