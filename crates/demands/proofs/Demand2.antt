@@ -11,7 +11,7 @@ use mathlib.Core.Option.{some, none}
 use mathlib.Core.Path.{_≡_, refl, sym, _∙_, ap}
 use lib.Dec.{T}
 use lib.ListN.{length, drop, replicate}
-use borrow.Author.Tests.{lt-ltb, ne-eqb}
+use borrow.Author.Tests.{ne-eqb}
 use Rattle.schedule.specs.declared.RuleRefusal.{RuleRefusal}
 use Rattle.schedule.specs.Rule.{Refusal, firstBreak, Everywhere, AllHold, FirstBroken}
 use Rattle.schedule.specs.Model.{Model, model, modelForm}
@@ -50,8 +50,12 @@ use Rattle.schedule.specs.Answers.{
   runRules,
   Written,
   lengthNeeded,
+  written,
   runChecks,
-  outcome,
+  from-input,
+  from-buffer,
+  runOutcome,
+  answerOf,
   runAnswer,
   bufferAfter,
   runBuffer,
@@ -77,12 +81,16 @@ use Rattle.laws.proofs.VerdictLaws.{
   plain-past-form,
   strict-past-form,
   strict-extends,
-  written,
+  run-from-input,
+  outcome-short,
+  outcome-fits,
+  concluded-refused,
   run-outcome,
   run-verdict,
 }
-use Rattle.laws.proofs.RuleNumbers.{first-broken-number, input-numbers, run-numbers}
 use Rattle.schedule.specs.Keeps.{KeepsPlain, KeepsStrict}
+use Rattle.demands.specs.ByNumber.{bufferByNumber}
+use Rattle.demands.proofs.RunNumbers.{buffer-by-number}
 
 -- The plain check, of any two byte strings.
 -- It accepts, with these figures, exactly where every form rule of the two records and every rule from 21 to 29 holds,
@@ -246,16 +254,24 @@ pub run-input : (s q : List ℕ) → AllHold (runChecks s q) ⊎ ((x : Refusal) 
 run-input s q = hold-or-broken (runChecks s q) (runChecks-sound s q)
 
 -- Where an input rule is broken, it refuses with the first break.
+from-broken-input : (s q : List ℕ) (room : ℕ) (x : Refusal)
+    → FirstBroken (runChecks s q) x → runOutcome s q room ≡ from-input x
+from-broken-input s q room x h = run-from-input s q room x (some-iff (runChecks s q) x (runChecks-sound s q) .1 h)
+
 pub run-input-refused : (s q : List ℕ) (room : ℕ) (x : Refusal)
     → FirstBroken (runChecks s q) x → runAnswer s q room ≡ refused x
-unfolding runAnswer
-run-input-refused s q room x h = rw (some-iff (runChecks s q) x (runChecks-sound s q) .1 h, runAnswer)
+unfolding runAnswer answerOf
+run-input-refused s q room x h = ap answerOf (from-broken-input s q room x h)
 
 -- Else, where the buffer is shorter than the plan, it refuses with 41 and the length needed.
+from-short-buffer : (s q : List ℕ) (room : ℕ) → AllHold (runChecks s q) → room < lengthNeeded (model s)
+    → runOutcome s q room ≡ from-buffer (record { number = 41; A = lengthNeeded (model s); B = 0 })
+from-short-buffer s q room h l = run-outcome s q room h ∙ outcome-short (model s) (choice q) room l
+
 pub run-short-buffer : (s q : List ℕ) (room : ℕ) → AllHold (runChecks s q) → room < lengthNeeded (model s)
     → runAnswer s q room ≡ refused (record { number = 41; A = lengthNeeded (model s); B = 0 })
-unfolding outcome
-run-short-buffer s q room h l = run-outcome s q room h ∙ rw (lt-ltb _ _ l)
+unfolding runAnswer answerOf
+run-short-buffer s q room h l = ap answerOf (from-short-buffer s q room h l)
 
 -- Else, with room enough, it refuses exactly with the first break of rules 42 and 43 of the machine's run.
 pub run-refused : (s q : List ℕ) (room : ℕ) (x : Refusal) → AllHold (runChecks s q) → lengthNeeded (model s) ≤ room
@@ -280,46 +296,48 @@ run-accepted s q room w h l =
 -- On success it begins with the machine's plan, and the bytes beyond the length answered are what they were.
 pub buffer-accepted : (s q buffer : List ℕ) (w : Written) → runAnswer s q (length buffer) ≡ accepted w
     → runBuffer s q buffer ≡ planBytes (machinePlan (model s) (choice q)) ++ drop (w .length) buffer
-unfolding runBuffer bufferAfter
-buffer-accepted s q buffer w e = rw e
+unfolding bufferByNumber
+buffer-accepted s q buffer w e = buffer-by-number s q buffer ∙ rw e
 
 -- After 42 and 43 as many bytes as the plan is long are 0, and the bytes beyond are what they were.
 pub buffer-zeroed : (s q buffer : List ℕ) (x : Refusal) → runAnswer s q (length buffer) ≡ refused x
     → (x .number ≡ 42) ⊎ (x .number ≡ 43)
     → runBuffer s q buffer ≡ replicate (lengthNeeded (model s)) 0 ++ drop (lengthNeeded (model s)) buffer
-unfolding runBuffer bufferAfter
-buffer-zeroed s q buffer x e (inl h) = rw (e, h)
-buffer-zeroed s q buffer x e (inr h) = rw (e, h)
+unfolding bufferByNumber
+buffer-zeroed s q buffer x e (inl h) = buffer-by-number s q buffer ∙ rw (e, h)
+buffer-zeroed s q buffer x e (inr h) = buffer-by-number s q buffer ∙ rw (e, h)
 
 -- After every other refusal no byte has changed.
 pub buffer-unchanged : (s q buffer : List ℕ) (x : Refusal) → runAnswer s q (length buffer) ≡ refused x
     → ¬ (x .number ≡ 42) → ¬ (x .number ≡ 43) → runBuffer s q buffer ≡ buffer
-unfolding runBuffer bufferAfter
-buffer-unchanged s q buffer x e h k = rw (e, ne-eqb (x .number) 42 h, ne-eqb (x .number) 43 k)
+unfolding bufferByNumber
+buffer-unchanged s q buffer x e h k =
+    buffer-by-number s q buffer ∙ rw (e, ne-eqb (x .number) 42 h, ne-eqb (x .number) 43 k)
 
 -- The lent buffer after the run, by the rules.
 -- Where an input rule is broken, no byte has changed.
 pub buffer-input-refused : (s q buffer : List ℕ) (x : Refusal)
     → FirstBroken (runChecks s q) x → runBuffer s q buffer ≡ buffer
-buffer-input-refused s q buffer x h =
-    let low = first-broken-number (λ k. k < 42) (runChecks s q) x (input-numbers s q) h in
-    buffer-unchanged s q buffer x (run-input-refused s q (length buffer) x h)
-    (λ e. omega arith) (λ e. omega arith)
+unfolding runBuffer bufferAfter
+buffer-input-refused s q buffer x h = rw (from-broken-input s q (length buffer) x h)
 
 -- Where the buffer is shorter than the plan, no byte has changed.
 pub buffer-short : (s q buffer : List ℕ) → AllHold (runChecks s q) → length buffer < lengthNeeded (model s)
     → runBuffer s q buffer ≡ buffer
-buffer-short s q buffer h l =
-    buffer-unchanged s q buffer _ (run-short-buffer s q (length buffer) h l)
-    (λ e. omega arith) (λ e. omega arith)
+unfolding runBuffer bufferAfter
+buffer-short s q buffer h l = rw (from-short-buffer s q (length buffer) h l)
 
 -- Where 42 or 43 is broken, the plan's length of bytes is 0, and the bytes beyond are what they were.
 pub buffer-run-refused : (s q buffer : List ℕ) (x : Refusal)
     → AllHold (runChecks s q) → lengthNeeded (model s) ≤ length buffer → FirstBroken (runRules (model s) (choice q)) x
     → runBuffer s q buffer ≡ replicate (lengthNeeded (model s)) 0 ++ drop (lengthNeeded (model s)) buffer
+unfolding runBuffer bufferAfter
 buffer-run-refused s q buffer x h l broken =
-    buffer-zeroed s q buffer x (run-refused s q (length buffer) x h l .1 broken)
-    (first-broken-number (λ k. (k ≡ 42) ⊎ (k ≡ 43)) _ x (run-numbers (model s) (choice q)) broken)
+    rw (
+      run-outcome s q (length buffer) h,
+      outcome-fits (model s) (choice q) (length buffer) l,
+      concluded-refused (model s) (choice q) x (some-iff _ x (runRules-sound (model s) (choice q)) .1 broken),
+    )
 
 -- Where 42 and 43 hold, the buffer begins with the machine's plan, and the bytes beyond its length are what they were.
 pub buffer-run-accepted : (s q buffer : List ℕ)

@@ -1,2 +1,3 @@
 pub mod Strict
 pub mod Efe
+pub mod ByNumber

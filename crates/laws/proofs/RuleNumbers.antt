@@ -1,26 +1,9 @@
 -- What every rule of a list has, its first break has: which numbers the refusals can have.
 -- Assumes nothing.
-use Prim.Native.Nat.{ℕ, _<_}
-use native.Mathlib.Omega.{arith}
+use Prim.Native.Nat.{ℕ}
 use mathlib.Core.List.{List, [], _∷_, _++_}
-use mathlib.Core.Logic.{_⊎_, inl, inr}
-use mathlib.Core.Path.{_≡_, refl, subst}
+use mathlib.Core.Path.{subst}
 use Rattle.schedule.specs.Rule.{Rule, Refusal, FirstBroken}
-use Rattle.schedule.specs.Model.{
-  Model,
-  model,
-  lengthRule,
-  versionRule,
-  formulaRule,
-  limitsRule,
-  threadRule,
-  activityRule,
-  maskRule,
-  modelForm,
-}
-use Rattle.schedule.specs.Choice.{Choice, choiceCounts, rangeRule, durationRule, choiceForm}
-use Rattle.schedule.specs.Timing.{deadlineRule}
-use Rattle.schedule.specs.Answers.{owedRule, runRules, runChecks}
 
 -- every rule of a list has a property
 abbrev pub AllRules : (Rule → Type 0) → List Rule → Type 0
@@ -51,14 +34,3 @@ pub first-broken-number : (P : ℕ → Type 0) (rules : List Rule) (x : Refusal)
     → AllNumbers P rules → FirstBroken rules x → P (x .number)
 first-broken-number P rules x numbers h =
     subst P (h .broken .numbered) (first-broken-rule (λ r. P (r .number)) rules x numbers h)
-
--- the run's input refusals have numbers below 42
-pub input-numbers : (s q : List ℕ) → AllNumbers (λ k. k < 42) (runChecks s q)
-unfolding runChecks modelForm choiceForm lengthRule versionRule formulaRule limitsRule threadRule activityRule maskRule
-    choiceCounts rangeRule durationRule
-input-numbers s q = rules-append (λ r. r .number < 42) (modelForm s) (choiceForm (model s) q) (omega arith) (omega arith)
-
--- the run's own have 42 or 43
-pub run-numbers : (m : Model) (q : Choice) → AllNumbers (λ k. (k ≡ 42) ⊎ (k ≡ 43)) (runRules m q)
-unfolding runRules owedRule deadlineRule
-run-numbers m q = (inl refl, (inr refl, tt))

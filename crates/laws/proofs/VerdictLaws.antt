@@ -1,12 +1,12 @@
 -- What the verdict on a list of rules says of the rules, and of the rules that stand behind the two records' form.
 -- Assumes nothing.
-use Prim.Native.Nat.{ℕ, _≤_}
+use Prim.Native.Nat.{ℕ, _≤_, _<_}
 use mathlib.Core.List.{List, _++_, append-assoc}
 use mathlib.Core.Logic.{_↔_, Iff·and, Iff·trans, Iff·rfl}
 use mathlib.Core.Option.{Option, some, none, Option·some-ne-none, Option·none-ne-some}
 use mathlib.Core.Path.{_≡_, refl, sym, _∙_, ap}
 use native.Mathlib.Omega.{arith}
-use borrow.Author.Tests.{le-ltb}
+use borrow.Author.Tests.{lt-ltb, le-ltb}
 use Rattle.schedule.specs.Rule.{Rule, Refusal, firstBreak, AllHold, FirstBroken}
 use Rattle.schedule.specs.Model.{Model, model, modelForm}
 use Rattle.schedule.specs.Choice.{Choice, choice}
@@ -22,12 +22,18 @@ use Rattle.schedule.specs.Answers.{
   strictChecks,
   plainVerdict,
   strictVerdict,
-  machinePlan,
   runRules,
-  Written,
   lengthNeeded,
+  written,
   runChecks,
+  from-input,
+  from-buffer,
+  from-run,
+  succeeded,
+  concluded,
   outcome,
+  runOutcome,
+  answerOf,
   runAnswer,
 }
 use Rattle.laws.proofs.FirstBreak.{AllSound, none-iff, some-iff, append-none}
@@ -101,18 +107,56 @@ pub strict-extends : (s r : List ℕ) → strictChecks s r ≡ plainChecks s r +
 unfolding strictChecks plainChecks strictRules plainRules
 strict-extends s r = rw (rulesOf-append (model s) (plan r) plainOrder furtherOrder) (simp append-assoc)
 
--- what a successful run answers
-abbrev pub written : Model → Choice → Written
-written m q = record { length = lengthNeeded m; figures = figures m (machinePlan m q) }
+-- how the run ends: by the first break of its input rules
+pub run-from-input : (s q : List ℕ) (room : ℕ) (x : Refusal) → firstBreak (runChecks s q) ≡ some x
+    → runOutcome s q room ≡ from-input x
+unfolding runOutcome
+run-from-input s q room x e = rw (e, runOutcome)
 
--- past the input rules, the run's answer is its outcome
+pub run-past-input : (s q : List ℕ) (room : ℕ) → firstBreak (runChecks s q) ≡ none
+    → runOutcome s q room ≡ outcome (model s) (choice q) room
+unfolding runOutcome
+run-past-input s q room e = rw (e, runOutcome)
+
+-- by the buffer's room
+pub outcome-short : (m : Model) (q : Choice) (room : ℕ) → room < lengthNeeded m
+    → outcome m q room ≡ from-buffer (record { number = 41; A = lengthNeeded m; B = 0 })
+unfolding outcome
+outcome-short m q room l = rw (lt-ltb room (lengthNeeded m) l)
+
+pub outcome-fits : (m : Model) (q : Choice) (room : ℕ) → lengthNeeded m ≤ room → outcome m q room ≡ concluded m q
+unfolding outcome
+outcome-fits m q room l = rw (le-ltb room (lengthNeeded m) l)
+
+-- by the first break of 42 and 43
+pub concluded-refused : (m : Model) (q : Choice) (x : Refusal) → firstBreak (runRules m q) ≡ some x
+    → concluded m q ≡ from-run x
+unfolding concluded
+concluded-refused m q x e = rw (e, concluded)
+
+pub concluded-succeeded : (m : Model) (q : Choice) → firstBreak (runRules m q) ≡ none
+    → concluded m q ≡ succeeded (written m q)
+unfolding concluded
+concluded-succeeded m q e = rw (e, concluded)
+
+-- what it concludes is the verdict of 42 and 43
+concluded-answer : (m : Model) (q : Choice) → answerOf (concluded m q) ≡ answer (firstBreak (runRules m q)) (written m q)
+unfolding answerOf answer
+concluded-answer m q = by (firstBreak (runRules m q)) refl
+  where
+    by : (o : Option Refusal) → firstBreak (runRules m q) ≡ o → answerOf (concluded m q) ≡ answer o (written m q)
+    by none e = ap answerOf (concluded-succeeded m q e)
+    by (some x) e = ap answerOf (concluded-refused m q x e)
+
+-- past the input rules
 pub run-outcome : (s q : List ℕ) (room : ℕ) → AllHold (runChecks s q)
-    → runAnswer s q room ≡ outcome (model s) (choice q) room
-unfolding runAnswer
-run-outcome s q room h = rw (none-iff (runChecks s q) (runChecks-sound s q) .1 h, runAnswer)
+    → runOutcome s q room ≡ outcome (model s) (choice q) room
+run-outcome s q room h = run-past-input s q room (none-iff (runChecks s q) (runChecks-sound s q) .1 h)
 
--- with room enough, that is the verdict of rules 42 and 43
+-- past the input rules and with room enough, the run's answer is the verdict of 42 and 43
 pub run-verdict : (s q : List ℕ) (room : ℕ) → AllHold (runChecks s q) → lengthNeeded (model s) ≤ room
     → runAnswer s q room ≡ answer (firstBreak (runRules (model s) (choice q))) (written (model s) (choice q))
-unfolding outcome
-run-verdict s q room h l = run-outcome s q room h ∙ rw (le-ltb room (lengthNeeded (model s)) l)
+unfolding runAnswer
+run-verdict s q room h l =
+    ap answerOf (run-outcome s q room h ∙ outcome-fits (model s) (choice q) room l)
+    ∙ concluded-answer (model s) (choice q)

@@ -6,13 +6,12 @@ use native.Mathlib.Nat.{lt-of-lt-of-le}
 use native.Mathlib.Omega.{arith}
 use mathlib.Core.Bool.{Bool, true, false, _&&_, not, cond}
 use mathlib.Core.List.{List, [], _++_, append-assoc}
-use mathlib.Core.Logic.{_⊎_, inl, inr, ⊎-elim}
+use mathlib.Core.Logic.{⊎-elim}
 use mathlib.Core.Option.{Option, some, none}
 use mathlib.Core.Path.{_≡_, refl, sym, subst, ap, ap₂, _∙_}
 use lib.Dec.{T, eqb, ltb}
 use lib.ListN.{length, getD, drop, replicate, length-append}
 use lib.Pow.{pow-mono}
-use borrow.Author.Tests.{lt-ltb, le-ltb, eq-eqb, ne-eqb}
 use Rattle.schedule.specs.Bounded.{lowest, bit, ones, least}
 use Rattle.schedule.specs.Fields.{Bytes}
 use Rattle.schedule.specs.Rule.{Rule, Refusal, break, firstBreak}
@@ -38,7 +37,8 @@ use Rattle.schedule.specs.Plan.{planBytes, pairRows, tickAt, wordIn}
 use Rattle.schedule.specs.Machine.{owes, endOf, initial, stateAt, machineWord, machineStart, machineEnd}
 use Rattle.schedule.specs.Timing.{onTime, inTime, deadlineRule}
 use Rattle.schedule.specs.Answers.{Answer, accepted, refused, answer, figures, Written, machinePlan, owedRule, runRules}
-use Rattle.schedule.specs.Answers.{lengthNeeded, runChecks, outcome, runAnswer, bufferAfter, runBuffer}
+use Rattle.schedule.specs.Answers.{lengthNeeded, written, runChecks, Outcome, from-run, succeeded, concluded, outcome}
+use Rattle.schedule.specs.Answers.{answerOf, runAnswer, bufferAfter, runBuffer}
 use Rattle.laws.proofs.Tests.{T-not}
 use Rattle.laws.proofs.Counting.{decT}
 use Rattle.laws.proofs.Lowest.{Lowest, lowest-is}
@@ -48,10 +48,10 @@ use Rattle.laws.proofs.RowLaws.{refusalAt, ClearTo, clear-end, clear-stop, row-
 use Rattle.laws.proofs.Sums.{total-ext, greatest-ext}
 use Rattle.laws.proofs.MachineLaws.{end-next, word-lt, getD-table}
 use Rattle.laws.proofs.PlanBytes.{length-pairs, length-planBytes}
-use Rattle.laws.proofs.VerdictLaws.{written}
-use Rattle.laws.proofs.FirstBreak.{none-iff, some-iff, append-none, append-some, rule-stops, rule-goes-on, says}
-use Rattle.laws.proofs.Sound.{modelForm-sound, runChecks-sound, runRules-sound}
-use Rattle.laws.proofs.RuleNumbers.{first-broken-number, input-numbers, run-numbers}
+use Rattle.laws.proofs.VerdictLaws.{run-from-input, run-past-input, outcome-short, outcome-fits}
+use Rattle.laws.proofs.VerdictLaws.{concluded-refused, concluded-succeeded}
+use Rattle.laws.proofs.FirstBreak.{none-iff, append-none, append-some, rule-stops, rule-goes-on, says}
+use Rattle.laws.proofs.Sound.{modelForm-sound}
 use Rattle.fields.specs.Put.{put}
 use Rattle.fields.proofs.PutLaws.{put-at, put-back, put-front, put-twice, drop-put, length-put}
 use Rattle.records.specs.Writes.{headBytes}
@@ -59,7 +59,7 @@ use Rattle.records.proofs.WriteLaws.{length-head, pairs-ext}
 use Rattle.run.specs.declared.tables.Column.{Column}
 use Rattle.run.specs.Tables.{entryOf, Filled}
 use Rattle.run.specs.Grid.{gridBytes, Runs, Finished}
-use Rattle.run.specs.Outcome.{concluded, Stopped, Standing, Answers}
+use Rattle.run.specs.Outcome.{Stopped, Standing, Answers}
 use Rattle.run.specs.Front.{frontBytes, frontIn, gridOf, gridIn, startIn, usageIn, figuresIn, inTimeFrom}
 use Rattle.run.proofs.GridLaws.{length-grid}
 
@@ -267,60 +267,40 @@ placed-stands m q l out owed ends runs room p =
 
 -- ---- the answers where there is room
 
--- a run refusal is 42 or 43
-run-number : (m : Model) (q : Choice) (x : Refusal) → firstBreak (runRules m q) ≡ some x → (x .number ≡ 42) ⊎ (x .number ≡ 43)
-run-number m q x e =
-    first-broken-number (λ k. (k ≡ 42) ⊎ (k ≡ 43)) (runRules m q) x (run-numbers m q)
-    (some-iff (runRules m q) x (runRules-sound m q) .0 e)
-
-cleared : (m : Model) (q : Choice) (x : Refusal) (l : List ℕ) → (x .number ≡ 42) ⊎ (x .number ≡ 43)
-    → bufferAfter (refused x) m q l ≡ replicate (lengthNeeded m) 0 ++ drop (lengthNeeded m) l
-unfolding bufferAfter
-cleared m q x l (inl e) = rw (eq-eqb (x .number) 42 e)
-cleared m q x l (inr e) = rw (ne-eqb (x .number) 42 (omega arith), eq-eqb (x .number) 43 e)
-
-kept : (m : Model) (q : Choice) (x : Refusal) (l : List ℕ) → (¬ (x .number ≡ 42)) → (¬ (x .number ≡ 43))
-    → bufferAfter (refused x) m q l ≡ l
-unfolding bufferAfter
-kept m q x l f g = rw (ne-eqb (x .number) 42 f, ne-eqb (x .number) 43 g)
-
 accepted-same : (m : Model) (q : Choice) (l l′ : List ℕ) → drop (lengthNeeded m) l ≡ drop (lengthNeeded m) l′
-    → bufferAfter (accepted (written m q)) m q l ≡ bufferAfter (accepted (written m q)) m q l′
+    → bufferAfter (succeeded (written m q)) m q l ≡ bufferAfter (succeeded (written m q)) m q l′
 unfolding bufferAfter
 accepted-same m q l l′ e = ap (λ (b : List ℕ). planBytes (machinePlan m q) ++ b) e
 
-concluded-some : (m : Model) (q : Choice) (x : Refusal) → firstBreak (runRules m q) ≡ some x → concluded m q ≡ refused x
-unfolding concluded answer
-concluded-some m q x e = ap (λ (o : Option Refusal). answer o (written m q)) e
-
-concluded-none : (m : Model) (q : Choice) → firstBreak (runRules m q) ≡ none → concluded m q ≡ accepted (written m q)
-unfolding concluded answer
-concluded-none m q e = ap (λ (o : Option Refusal). answer o (written m q)) e
+refused-same : (m : Model) (q : Choice) (x : Refusal) (l l′ : List ℕ) → drop (lengthNeeded m) l ≡ drop (lengthNeeded m) l′
+    → bufferAfter (from-run x) m q l ≡ bufferAfter (from-run x) m q l′
+unfolding bufferAfter
+refused-same m q x l l′ e = ap (λ (b : List ℕ). replicate (lengthNeeded m) 0 ++ b) e
 
 pub refused-answers : (m : Model) (q : Choice) (out out′ : List ℕ) (x : Declared)
     → firstBreak (runRules m q) ≡ some (refusalNumbers x)
     → out′ ≡ replicate (lengthNeeded m) 0 ++ drop (lengthNeeded m) out
     → Answers (concluded m q) m q out out′ (RunVerdict.Refused x)
+unfolding answerOf bufferAfter
 refused-answers m q out out′ x e f =
-    let c = concluded-some m q (refusalNumbers x) e in
+    let c = concluded-refused m q (refusalNumbers x) e in
     record {
-      says = sym c;
-      leaves = f ∙ sym (ap (λ (a : Answer Written). bufferAfter a m q out) c
-          ∙ cleared m q (refusalNumbers x) out (run-number m q (refusalNumbers x) e));
+      says = sym (ap answerOf c);
+      leaves = f ∙ sym (ap (λ (o : Outcome). bufferAfter o m q out) c);
     }
 
 pub accepted-answers : (m : Model) (q : Choice) (out out′ owed ends : List ℕ) (k : ℕ) (f : Shown)
     → Standing m q out owed ends → firstBreak (runRules m q) ≡ none
     → k ≡ lengthNeeded m → figureNumbers f ≡ figuresIn m q out ends → out′ ≡ put 0 (frontIn m q out ends) out
     → Answers (concluded m q) m q out out′ (RunVerdict.Accepted (record { length = k; figures = f }))
-unfolding bufferAfter
+unfolding answerOf bufferAfter
 accepted-answers m q out out′ owed ends k f stands e ek ef eo =
-    let c = concluded-none m q e in
+    let c = concluded-succeeded m q e in
     let g = ef ∙ figures-are m q out owed ends stands in
     let both : _≡_ {A = Written} (record { length = k; figures = figureNumbers f }) (written m q) = λ i. record { length = ek i; figures = g i } in
     record {
-      says = ap {B = Answer Written} accepted both ∙ sym c;
-      leaves = eo ∙ plan-written m q out owed ends stands ∙ sym (ap (λ (a : Answer Written). bufferAfter a m q out) c);
+      says = ap {B = Answer Written} accepted both ∙ sym (ap answerOf c);
+      leaves = eo ∙ plan-written m q out owed ends stands ∙ sym (ap (λ (o : Outcome). bufferAfter o m q out) c);
     }
 
 -- ---- 41, and the rest of the outcome
@@ -328,29 +308,22 @@ accepted-answers m q out out′ owed ends k f stands e ek ef eo =
 pub room-answers : (m : Model) (q : Choice) (l : List ℕ) (x : Declared) → length l < lengthNeeded m
     → refusalNumbers x ≡ record { number = 41; A = lengthNeeded m; B = 0 }
     → Answers (outcome m q (length l)) m q l l (RunVerdict.Refused x)
-unfolding outcome
+unfolding answerOf bufferAfter
 room-answers m q l x h e =
-    let o : outcome m q (length l) ≡ refused (refusalNumbers x) =
-    ap (λ (b : Bool). cond b (refused (record { number = 41; A = lengthNeeded m; B = 0 })) (concluded′ m q)) (lt-ltb (length l) (lengthNeeded m) h)
-    ∙ ap {B = Answer Written} refused (sym e) in
-    let n : refusalNumbers x .number ≡ 41 = ap (λ (y : Refusal). y .number) e in
+    let o = outcome-short m q (length l) h in
     record {
-      says = sym o;
-      leaves = sym (ap (λ (a : Answer Written). bufferAfter a m q l) o ∙ kept m q (refusalNumbers x) l (omega arith) (omega arith));
+      says = ap {B = Answer Written} refused e ∙ sym (ap answerOf o);
+      leaves = sym (ap (λ (o : Outcome). bufferAfter o m q l) o);
     }
-  where
-    concluded′ : Model → Choice → Answer Written
-    concluded′ m q = answer (firstBreak (runRules m q)) (written m q)
 
 -- with room, what was concluded of the buffer with the grid holds of the buffer as it was lent
 pub outcome-answers : (m : Model) (q : Choice) (l out out′ owed ends : List ℕ) (r : RunVerdict) → lengthNeeded m ≤ length l
     → Finished m q (gridOf m) l out owed ends → Answers (concluded m q) m q out out′ r → Answers (outcome m q (length l)) m q l out′ r
-unfolding outcome concluded
 outcome-answers m q l out out′ owed ends r h p a =
-    let o : outcome m q (length l) ≡ concluded m q = rw (le-ltb (length l) (lengthNeeded m) h) in
+    let o = outcome-fits m q (length l) h in
     record {
-      says = a .says ∙ sym o;
-      leaves = a .leaves ∙ same (firstBreak (runRules m q)) refl ∙ sym (ap (λ (a : Answer Written). bufferAfter a m q l) o);
+      says = a .says ∙ sym (ap answerOf o);
+      leaves = a .leaves ∙ same (firstBreak (runRules m q)) refl ∙ sym (ap (λ (o : Outcome). bufferAfter o m q l) o);
     }
   where
     behind : drop (lengthNeeded m) out ≡ drop (lengthNeeded m) l
@@ -361,17 +334,15 @@ outcome-answers m q l out out′ owed ends r h p a =
     same : (o : Option Refusal) → firstBreak (runRules m q) ≡ o
         → bufferAfter (concluded m q) m q out ≡ bufferAfter (concluded m q) m q l
     same (some x) e =
-        let c = concluded-some m q x e in
-        let n = run-number m q x e in
-        ap (λ (a : Answer Written). bufferAfter a m q out) c
-        ∙ cleared m q x out n
-        ∙ ap (λ (b : List ℕ). replicate (lengthNeeded m) 0 ++ b) behind
-        ∙ sym (ap (λ (a : Answer Written). bufferAfter a m q l) c ∙ cleared m q x l n)
+        let c = concluded-refused m q x e in
+        ap (λ (o : Outcome). bufferAfter o m q out) c
+        ∙ refused-same m q x out l behind
+        ∙ sym (ap (λ (o : Outcome). bufferAfter o m q l) c)
     same none e =
-        let c = concluded-none m q e in
-        ap (λ (a : Answer Written). bufferAfter a m q out) c
+        let c = concluded-succeeded m q e in
+        ap (λ (o : Outcome). bufferAfter o m q out) c
         ∙ accepted-same m q out l behind
-        ∙ sym (ap (λ (a : Answer Written). bufferAfter a m q l) c)
+        ∙ sym (ap (λ (o : Outcome). bufferAfter o m q l) c)
 
 -- ---- the input
 
@@ -386,17 +357,6 @@ unfolding answer
 answer-accepts none pass f e = refl
 answer-accepts (some y) pass f e = let z : _≡_ {A = ℕ} 0 1 = cc in absurd (omega arith)
 
-refused-input : (s q : List ℕ) (room : ℕ) (x : Refusal) → firstBreak (runChecks s q) ≡ some x → runAnswer s q room ≡ refused x
-unfolding runAnswer
-refused-input s q room x e =
-    ap (λ (o : Option Refusal). elim o [ some y ↦ refused y | none ↦ outcome (model s) (choice q) room ]) e
-
-passed-input : (s q : List ℕ) (room : ℕ) → firstBreak (runChecks s q) ≡ none
-    → runAnswer s q room ≡ outcome (model s) (choice q) room
-unfolding runAnswer
-passed-input s q room e =
-    ap (λ (o : Option Refusal). elim o [ some y ↦ refused y | none ↦ outcome (model s) (choice q) room ]) e
-
 module _ (s q : List ℕ) where
   pub model-breaks : (x : Refusal) → firstBreak (modelForm s) ≡ some x → firstBreak (runChecks s q) ≡ some x
   unfolding runChecks
@@ -409,24 +369,19 @@ module _ (s q : List ℕ) where
   -- an input refusal changes no byte
   pub input-refused : (l : List ℕ) (x : Refusal) → firstBreak (runChecks s q) ≡ some x
       → (refused x ≡ runAnswer s q (length l)) × (l ≡ runBuffer s q l)
-  unfolding runBuffer
+  unfolding runAnswer answerOf runBuffer bufferAfter
   input-refused l x e =
-      let a = refused-input s q (length l) x e in
-      let n : x .number < 42 =
-      first-broken-number (λ k. k < 42) (runChecks s q) x (input-numbers s q) (some-iff (runChecks s q) x (runChecks-sound s q) .0 e) in (
-        sym a,
-        sym (ap (λ (y : Answer Written). bufferAfter y (model s) (choice q) l) a
-            ∙ kept (model s) (choice q) x l (omega arith) (omega arith)),
-      )
+      let o = run-from-input s q (length l) x e in
+      (sym (ap answerOf o), sym (ap (λ (o : Outcome). bufferAfter o (model s) (choice q) l) o))
 
   -- past the input the outcome counts
   pub input-passed : (l l′ : List ℕ) (r : RunVerdict) → firstBreak (runChecks s q) ≡ none
       → Answers (outcome (model s) (choice q) (length l)) (model s) (choice q) l l′ r
       → (runNumbers r ≡ runAnswer s q (length l)) × (l′ ≡ runBuffer s q l)
-  unfolding runBuffer
+  unfolding runAnswer runBuffer
   input-passed l l′ r e a =
-      let o = passed-input s q (length l) e in
-      (a .says ∙ sym o, a .leaves ∙ sym (ap (λ (y : Answer Written). bufferAfter y (model s) (choice q) l) o))
+      let o = run-past-input s q (length l) e in
+      (a .says ∙ sym (ap answerOf o), a .leaves ∙ sym (ap (λ (o : Outcome). bufferAfter o (model s) (choice q) l) o))
 
 -- a model that meets its form runs
 pub form-runs : (s : List ℕ) → Bytes s → firstBreak (modelForm s) ≡ none → Runs (model s)

@@ -9,10 +9,10 @@ ghost use mathlib.Core.Path.{_≡_};
 ghost use lib.ListN.{length};
 ghost use Rattle.schedule.specs.Model.{model};
 ghost use Rattle.schedule.specs.Choice.{choice};
-ghost use Rattle.schedule.specs.Answers.{outcome, runAnswer, runBuffer};
+ghost use Rattle.schedule.specs.Answers.{concluded, outcome, runAnswer, runBuffer};
 ghost use Rattle.schedule.specs.Numbers.{runNumbers};
 ghost use Rattle.run.specs.Grid.{Runs};
-ghost use Rattle.run.specs.Outcome.{concluded, Standing, Answers};
+ghost use Rattle.run.specs.Outcome.{Standing, Answers};
 
 mod finish;
 mod grid;

@@ -1,7 +1,7 @@
 -- What each call answers, and what it leaves in the lent buffer.
 -- Assumes nothing.
 use Prim.Native.Nat.{ℕ, _-_, _*_}
-use mathlib.Core.Bool.{_||_, cond}
+use mathlib.Core.Bool.{cond}
 use mathlib.Core.List.{List, [], _∷_, _++_}
 use mathlib.Core.Option.{Option, some, none}
 use mathlib.Core.Path.{_≡_}
@@ -92,33 +92,57 @@ pub record Written : Type 0 where
 unfoldable pub lengthNeeded : Model → ℕ
 lengthNeeded m = planLength (m .threads) (m .activities) (m .horizon)
 
+-- what a successful run answers
+abbrev pub written : Model → Choice → Written
+written m q = record { length = lengthNeeded m; figures = figures m (machinePlan m q) }
+
 -- the rules of the run on its two records, in the order in which they are tried
 unfoldable pub runChecks : List ℕ → List ℕ → List Rule
 runChecks s q = modelForm s ++ choiceForm (model s) q
 
--- the run's answer past the input: 41 buffer shorter than the plan, A is the length needed; then 42 and 43
-unfoldable pub outcome : Model → Choice → ℕ → Answer Written
+-- How the run ends, by where its refusal comes from: "From the input" (1 to 13), or "From the state of the buffer or run",
+-- which is the buffer's room (41) or the run itself (42 and 43); or with a plan written.
+pub data Outcome : Type 0 where
+  from-input : Refusal → Outcome
+  from-buffer : Refusal → Outcome
+  from-run : Refusal → Outcome
+  succeeded : Written → Outcome
+
+-- where there is room: 42 and 43, or the length and the figures
+unfoldable pub concluded : Model → Choice → Outcome
+concluded m q = elim (firstBreak (runRules m q)) [ some x ↦ from-run x | none ↦ succeeded (written m q) ]
+
+-- past the input: 41 buffer shorter than the plan, A is the length needed; then 42 and 43
+unfoldable pub outcome : Model → Choice → ℕ → Outcome
 outcome m q room =
-    cond (ltb room (lengthNeeded m)) (refused (record { number = 41; A = lengthNeeded m; B = 0 }))
-    (answer (firstBreak (runRules m q)) (record { length = lengthNeeded m; figures = figures m (machinePlan m q) }))
+    cond (ltb room (lengthNeeded m)) (from-buffer (record { number = 41; A = lengthNeeded m; B = 0 })) (concluded m q)
 
--- the run's answer on a model's and a choice's bytes and the buffer's length
+-- how the run ends on a model's and a choice's bytes and the buffer's length: "tried after the input"
+unfoldable pub runOutcome : List ℕ → List ℕ → ℕ → Outcome
+runOutcome s q room =
+    elim (firstBreak (runChecks s q)) [ some x ↦ from-input x | none ↦ outcome (model s) (choice q) room ]
+
+-- what the run answers
+unfoldable pub answerOf : Outcome → Answer Written
+answerOf (from-input x) = refused x
+answerOf (from-buffer x) = refused x
+answerOf (from-run x) = refused x
+answerOf (succeeded w) = accepted w
+
 unfoldable pub runAnswer : List ℕ → List ℕ → ℕ → Answer Written
-runAnswer s q room =
-    elim (firstBreak (runChecks s q)) [ some x ↦ refused x | none ↦ outcome (model s) (choice q) room ]
+runAnswer s q room = answerOf (runOutcome s q room)
 
--- what the run leaves in the lent buffer: the plan on success; "42 and 43 set the plan's length of bytes to 0"; "Input
--- refusals and 41 change no byte"; "Bytes beyond the plan's length never change"
-unfoldable pub bufferAfter : Answer Written → Model → Choice → List ℕ → List ℕ
-bufferAfter (accepted w) m q buffer = planBytes (machinePlan m q) ++ drop (w .length) buffer
-bufferAfter (refused x) m q buffer =
-    cond (eqb (x .number) 42 || eqb (x .number) 43)
-    (replicate (lengthNeeded m) 0 ++ drop (lengthNeeded m) buffer)
-    buffer
+-- what the run leaves in the lent buffer: "Input refusals and 41 change no byte"; "42 and 43 set the plan's length of
+-- bytes to 0"; the plan on success; "Bytes beyond the plan's length never change"
+unfoldable pub bufferAfter : Outcome → Model → Choice → List ℕ → List ℕ
+bufferAfter (from-input x) m q buffer = buffer
+bufferAfter (from-buffer x) m q buffer = buffer
+bufferAfter (from-run x) m q buffer = replicate (lengthNeeded m) 0 ++ drop (lengthNeeded m) buffer
+bufferAfter (succeeded w) m q buffer = planBytes (machinePlan m q) ++ drop (w .length) buffer
 
 -- the whole buffer after the run
 unfoldable pub runBuffer : List ℕ → List ℕ → List ℕ → List ℕ
-runBuffer s q buffer = bufferAfter (runAnswer s q (length buffer)) (model s) (choice q) buffer
+runBuffer s q buffer = bufferAfter (runOutcome s q (length buffer)) (model s) (choice q) buffer
 
 -- "A model that passes 1 to 7 meets its form rules"
 abbrev pub MeetsForm : List ℕ → Type 0

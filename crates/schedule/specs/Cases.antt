@@ -94,8 +94,8 @@ unfolding Bounded.all Bounded.count Bounded.total Bounded.greatest Bounded.least
     Checks.rule21 Checks.rule22 Checks.rule23 Checks.rule24 Checks.rule25 Checks.rule26 Checks.rule27 Checks.rule28
     Checks.rule29 Checks.rule30 Checks.rule31 Checks.plainRules Checks.strictRules
     Answers.answer Answers.figures Answers.plainChecks Answers.strictChecks Answers.plainVerdict Answers.strictVerdict
-    Answers.machinePlan Answers.owedRule Answers.runRules Answers.lengthNeeded Answers.runChecks Answers.outcome
-    Answers.runAnswer Answers.bufferAfter Answers.runBuffer
+    Answers.machinePlan Answers.owedRule Answers.runRules Answers.lengthNeeded Answers.runChecks Answers.concluded
+    Answers.outcome Answers.runOutcome Answers.answerOf Answers.runAnswer Answers.bufferAfter Answers.runBuffer
     Streams.taken Streams.splits Streams.firstRecord Streams.secondRecord Streams.viewRefusal Streams.viewWord
     Lines.digits Lines.decimal Lines.hexDigit Lines.hex Lines.three Lines.shown Lines.checkLines Lines.tickLine
     Lines.runLines Lines.gridcheck Lines.gridrun
