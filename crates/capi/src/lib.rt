@@ -1,7 +1,5 @@
 // The exports for C and Rust: include/grid.h declares them.
-use numbers::form_number;
-use numbers::rule_number;
-use numbers::run_number;
+use numbers::refusal_numbers;
 use schedule::Refusal;
 use schedule::RunVerdict;
 use schedule::Verdict;
@@ -22,25 +20,16 @@ pub struct GridAnswer {
     pub length: u32,
 }
 
-fn refused(number: u32, a: u32, b: u32) -> GridAnswer
-    ensures { λ r. ⌜ r ≡ record { number = number; first = a; second = b; third = 0; length = 0 } ⌝ }
-{
-    GridAnswer {
-        number,
-        first: a,
-        second: b,
-        third: 0,
-        length: 0,
-    }
-}
-
 fn refusal(x: Refusal) -> GridAnswer
     ensures { λ r. ⌜ r ≡ refusalExported (refusalNumbers x) ⌝ }
 {
-    match x {
-        Refusal::Form(why, at) => refused(form_number(why), at.a, at.b),
-        Refusal::Rule(why, at) => refused(rule_number(why), at.a, at.b),
-        Refusal::Run(why, at) => refused(run_number(why), at.a, at.b),
+    let said = refusal_numbers(x);
+    GridAnswer {
+        number: said.number,
+        first: said.a,
+        second: said.b,
+        third: 0,
+        length: 0,
     }
 }
 

@@ -1,13 +1,15 @@
 // The paper's numbers of the refusals, and a little arithmetic of figures and ticks.
 use schedule::FormRefusal;
+use schedule::Numbered;
+use schedule::Refusal;
 use schedule::RuleRefusal;
 use schedule::RunRefusal;
 ghost use mathlib.Core.Path.{_≡_};
 ghost use Prim.Native.Nat.{_+_, _-_, max, min};
-ghost use Rattle.schedule.specs.Numbers.{formNumber, ruleNumber, runNumber};
+ghost use Rattle.schedule.specs.Numbers.{formNumber, ruleNumber, runNumber, refusalNumbers, numbersOf};
 
-// "A refusal answers its number, A and B".
-pub fn form_number(why: FormRefusal) -> u32
+// 1 to 14.
+fn form_number(why: FormRefusal) -> u32
     ensures { λ r. ⌜ r ≡ formNumber why ⌝ }
 {
     match why {
@@ -28,7 +30,8 @@ pub fn form_number(why: FormRefusal) -> u32
     }
 }
 
-pub fn rule_number(why: RuleRefusal) -> u32
+// 21 to 31.
+fn rule_number(why: RuleRefusal) -> u32
     ensures { λ r. ⌜ r ≡ ruleNumber why ⌝ }
 {
     match why {
@@ -46,13 +49,37 @@ pub fn rule_number(why: RuleRefusal) -> u32
     }
 }
 
-pub fn run_number(why: RunRefusal) -> u32
+// 41 to 43.
+fn run_number(why: RunRefusal) -> u32
     ensures { λ r. ⌜ r ≡ runNumber why ⌝ }
 {
     match why {
         RunRefusal::Room => 41,
         RunRefusal::Owed => 42,
         RunRefusal::Late => 43,
+    }
+}
+
+// "A refusal answers its number, A and B".
+pub fn refusal_numbers(x: Refusal) -> Numbered
+    ensures { λ r. ⌜ numbersOf r ≡ refusalNumbers x ⌝ }
+{
+    match x {
+        Refusal::Form(why, at) => Numbered {
+            number: form_number(why),
+            a: at.a,
+            b: at.b,
+        },
+        Refusal::Rule(why, at) => Numbered {
+            number: rule_number(why),
+            a: at.a,
+            b: at.b,
+        },
+        Refusal::Run(why, at) => Numbered {
+            number: run_number(why),
+            a: at.a,
+            b: at.b,
+        },
     }
 }
 

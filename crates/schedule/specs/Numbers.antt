@@ -6,6 +6,7 @@ use Rattle.schedule.specs.declared.FormRefusal.{FormRefusal}
 use Rattle.schedule.specs.declared.RuleRefusal.{RuleRefusal}
 use Rattle.schedule.specs.declared.RunRefusal.{RunRefusal}
 use Rattle.schedule.specs.declared.Refusal.{Refusal}
+use Rattle.schedule.specs.declared.Numbered.{Numbered}
 use Rattle.schedule.specs.declared.Figures.{Figures}
 use Rattle.schedule.specs.declared.Verdict.{Verdict}
 use Rattle.schedule.specs.declared.Written.{Written}
@@ -55,6 +56,9 @@ abbrev pub refusalNumbers : Refusal → Rule.Refusal
 refusalNumbers (Refusal.Form why at) = record { number = formNumber why; A = at .a; B = at .b }
 refusalNumbers (Refusal.Rule why at) = record { number = ruleNumber why; A = at .a; B = at .b }
 refusalNumbers (Refusal.Run why at) = record { number = runNumber why; A = at .a; B = at .b }
+
+abbrev pub numbersOf : Numbered → Rule.Refusal
+numbersOf x = record { number = x .number; A = x .a; B = x .b }
 
 abbrev pub figureNumbers : Figures → Answers.Figures
 figureNumbers f = record { usage = f .usage; capacity = f .capacity; makespan = f .makespan }

@@ -81,6 +81,13 @@ pub enum Refusal {
     Run(RunRefusal, Place),
 }
 
+// The same in the paper's numbers.
+pub struct Numbered {
+    pub number: u32,
+    pub a: u32,
+    pub b: u32,
+}
+
 // "A pass answers usage (all ones), c times H, makespan"
 pub struct Figures {
     pub usage: u32,

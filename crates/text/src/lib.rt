@@ -1,8 +1,6 @@
 // The lines that gridcheck and gridrun print, made as bytes in a lent buffer: whole where they fit, else nothing. Their
 // length is found first; then every part is written behind the one before it.
-use numbers::form_number;
-use numbers::rule_number;
-use numbers::run_number;
+use numbers::refusal_numbers;
 use schedule::Refusal;
 use schedule::RunVerdict;
 use schedule::Verdict;
@@ -38,25 +36,12 @@ struct Said {
 fn refusal_said(x: Refusal) -> Said
     ensures { λ r. ⌜ r ≡ refusalSaid (refusalNumbers x) ⌝ }
 {
-    match x {
-        Refusal::Form(why, at) => Said {
-            passed: false,
-            a: form_number(why),
-            b: at.a,
-            c: at.b,
-        },
-        Refusal::Rule(why, at) => Said {
-            passed: false,
-            a: rule_number(why),
-            b: at.a,
-            c: at.b,
-        },
-        Refusal::Run(why, at) => Said {
-            passed: false,
-            a: run_number(why),
-            b: at.a,
-            c: at.b,
-        },
+    let said = refusal_numbers(x);
+    Said {
+        passed: false,
+        a: said.number,
+        b: said.a,
+        c: said.b,
     }
 }
 

@@ -7,11 +7,8 @@
 // the lines that gridcheck or gridrun prints of it; of a run also the buffer afterwards, byte by byte in decimal; of a
 // view what its making answers, and its word, in decimal, or past; of the splitter the bytes of the two records.
 use libc::STDOUT_FILENO;
-use numbers::form_number;
-use numbers::rule_number;
-use numbers::run_number;
+use numbers::refusal_numbers;
 use records::Pass;
-use schedule::Place;
 use schedule::Refusal;
 use schedule::WordAt;
 ghost use Rattle.io.specs.Counts.{Counts};
@@ -102,13 +99,14 @@ fn next_tick(fd: i32) -> usize {
 }
 
 // Prints a refusal's number and place.
-fn print_refused(number: u32, at: Place) {
+fn print_refused(x: Refusal) {
+    let said = refusal_numbers(x);
     io::write_all(STDOUT_FILENO, b"refused ");
-    io::print_decimal(STDOUT_FILENO, number as u64);
+    io::print_decimal(STDOUT_FILENO, said.number as u64);
     io::write_all(STDOUT_FILENO, b" ");
-    io::print_decimal(STDOUT_FILENO, at.a as u64);
+    io::print_decimal(STDOUT_FILENO, said.a as u64);
     io::write_all(STDOUT_FILENO, b" ");
-    io::print_decimal(STDOUT_FILENO, at.b as u64);
+    io::print_decimal(STDOUT_FILENO, said.b as u64);
     io::write_all(STDOUT_FILENO, b"\n");
 }
 
@@ -118,11 +116,7 @@ fn print_making(made: Pass) {
         io::write_all(STDOUT_FILENO, b"made\n");
         return;
     };
-    match why {
-        Refusal::Form(form, at) => print_refused(form_number(form), at),
-        Refusal::Rule(rule, at) => print_refused(rule_number(rule), at),
-        Refusal::Run(run, at) => print_refused(run_number(run), at),
-    }
+    print_refused(why);
 }
 
 // Prints what a view gives.

@@ -1,46 +1,16 @@
--- `text::refusal_said` meets its contract: each kind's number, and the place.
+-- `text::refusal_said` meets its contract: the refusal's number, and its place.
 -- Assumes nothing.
+use mathlib.Core.Path.{ap}
 use borrow.Author.Needs.{needs}
+use Rattle.text.specs.Said.{refusalSaid}
 use Rattle.text.proofs.refusal_said.Statement.{statement}
 use Rattle.text.proofs.refusal_said.Tie as tie
 
-enum-known-x : tie.Need-enum-known-x
-enum-known-x c = search needs
-
-form-number-requires : tie.Need-form-number-requires
-form-number-requires c κs = search needs
-
-enum-known-x-2 : tie.Need-enum-known-x-2
-enum-known-x-2 c = search needs
-
-rule-number-requires : tie.Need-rule-number-requires
-rule-number-requires c κs = search needs
-
-enum-known-x-3 : tie.Need-enum-known-x-3
-enum-known-x-3 c = search needs
-
-run-number-requires : tie.Need-run-number-requires
-run-number-requires c κs = search needs
+refusal-numbers-requires : tie.Need-refusal-numbers-requires
+refusal-numbers-requires c κs = search needs
 
 returns : tie.Need-returns
-returns c = simp (c .before .before .x .given .1, c .form-number .ensures)
-
-returns-2 : tie.Need-returns-2
-returns-2 c = simp (c .before .before .x2 .given .1, c .rule-number .ensures)
-
-returns-3 : tie.Need-returns-3
-returns-3 c = simp (c .before .before .x3 .given .1, c .run-number .ensures)
+returns c = ap refusalSaid (c .refusal-numbers .ensures)
 
 pub refusal-said-spec : {M : Type 1} → statement M
-refusal-said-spec =
-    tie.close
-    (tie.spec
-    enum-known-x
-    form-number-requires
-    enum-known-x-2
-    rule-number-requires
-    enum-known-x-3
-    run-number-requires
-    returns
-    returns-2
-    returns-3)
+refusal-said-spec = tie.close (tie.spec refusal-numbers-requires returns)
