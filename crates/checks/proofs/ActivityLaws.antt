@@ -20,10 +20,9 @@ use Rattle.laws.proofs.Tests.{T-leb}
 use Rattle.laws.proofs.Counting.{T-ext}
 use Rattle.laws.proofs.FieldLaws.{field-lt}
 use Rattle.laws.proofs.Words.{wordOf-ext}
-use Rattle.laws.proofs.RowLaws.{brokenMask}
 use Rattle.laws.proofs.Named.{rule-number}
 use Rattle.checks.specs.declared.activity.ActivityRule.{ActivityRule}
-use Rattle.checks.specs.Tables.{Holds, finishOf}
+use Rattle.checks.specs.Tables.{brokenMask, TableOf, finishOf}
 use Rattle.checks.proofs.MaskRow.{one-column}
 use Rattle.checks.specs.Rules.{activityRule, activityName, earlyFrom, noneOutside}
 
@@ -37,7 +36,7 @@ window-outside m p a stray ordered inside first last e =
 
 -- 25 and 26: the predecessors at which they are broken, from the tables
 pub temporal-mask : (m : Model) (p : Plan) (ends delays : List ℕ) (a preceding start n : ℕ) → preceding ≡ m .temporal-mask a
-    → start ≡ p .start a → n ≡ m .activities → Holds m ends (p .end) → Holds m delays (m .delay)
+    → start ≡ p .start a → n ≡ m .activities → TableOf m ends (p .end) → TableOf m delays (m .delay)
     → earlyFrom preceding start n ends delays ≡ brokenMask (rule25 m p) a
 unfolding brokenMask rule25 earlyFrom
 temporal-mask m p ends delays a preceding start n e s k h d =
@@ -47,7 +46,7 @@ temporal-mask m p ends delays a preceding start n e s k h d =
     ∙ ap (λ (x : ℕ). not (temporally m b a ⇒ leb (p .end b + m .delay b) x)) s)
 
 pub data-mask : (m : Model) (p : Plan) (ends none : List ℕ) (a preceding start n : ℕ) → preceding ≡ m .data-mask a
-    → start ≡ p .start a → n ≡ m .activities → Holds m ends (p .end) → ((b : ℕ) → getD none b 0 ≡ 0)
+    → start ≡ p .start a → n ≡ m .activities → TableOf m ends (p .end) → ((b : ℕ) → getD none b 0 ≡ 0)
     → earlyFrom preceding start n ends none ≡ brokenMask (rule26 m p) a
 unfolding brokenMask rule26 earlyFrom
 data-mask m p ends none a preceding start n e s k h z =

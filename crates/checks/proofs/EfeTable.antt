@@ -11,13 +11,13 @@ use lib.ListN.{length, getD, set}
 use lib.Seq.{getD-set-same, getD-set-other, set-out}
 use Rattle.schedule.specs.Bounded.{bit, greatest}
 use Rattle.schedule.specs.Fields.{Bytes}
-use Rattle.schedule.specs.Model.{Model, model, temporally, byData}
+use Rattle.schedule.specs.Model.{Model, model, temporally, byData, Ordered}
 use Rattle.schedule.specs.Plan.{Plan, plan, active}
 use Rattle.schedule.specs.Checks.{countOf, efe, efeFrom}
 use Rattle.laws.proofs.Counting.{count-le}
 use Rattle.laws.proofs.FieldLaws.{field-lt}
 use Rattle.laws.proofs.Sums.{greatest-ext, greatest-bound}
-use Rattle.laws.proofs.EfeLaws.{Ordered, efe-equation}
+use Rattle.laws.proofs.EfeLaws.{efe-equation}
 use Rattle.checks.specs.Tables.{after, waitsFrom, finishOf}
 
 -- one predecessor's term, and the two that the paper writes

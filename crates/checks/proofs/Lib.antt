@@ -7,5 +7,5 @@ pub mod MaskRow
 pub mod ActivityLaws
 pub mod FigureLaws
 pub mod ListLaws
-pub mod GridLaws
+pub mod RuleOrder
 pub mod CheckLaws

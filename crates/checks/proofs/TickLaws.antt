@@ -19,12 +19,12 @@ use Rattle.schedule.specs.Numbers.{ruleNumber}
 use Rattle.laws.proofs.Tests.{T-all}
 use Rattle.laws.proofs.Counting.{T-ext, T-false}
 use Rattle.laws.proofs.Words.{bit-high, bit-wordOf, word-ext, wordOf-ext, wordOf-lt}
-use Rattle.laws.proofs.RowLaws.{brokenMask}
 use Rattle.laws.proofs.Named.{rule-number}
 use Rattle.bits.proofs.WordLaws.{bit-zero}
 use Rattle.checks.specs.declared.tick.TickRule.{TickRule}
 use Rattle.checks.specs.Windows.{openOf, without}
-use Rattle.checks.specs.Tables.{any, waitingMask, outranking, outrankingOf, rankMask, tickName, tickRule, breakingOf, HoldsOnly, Tabled}
+use Rattle.checks.specs.Tables.{TableOnly, brokenMask, any, waitingMask, rankMask, outranking, outrankingOf}
+use Rattle.checks.specs.Tables.{tickRule, tickName, breakingOf, Tabled}
 use Rattle.checks.proofs.WaitLaws.{waits-when, idle-mask, preemption-mask, tie-mask, cores-mask}
 
 -- where nothing waits, nothing breaks a rule that is tried of the waiting
@@ -83,7 +83,7 @@ module _ (rule : TickRule) (m : Model) (p : Plan) (froms ends masks : List ℕ) 
       swap false true = refl
       swap false false = refl
 
-  outranking-is : (level : Bool) → HoldsOnly (m .activities) masks (rankMask m level) → (word : ℕ)
+  outranking-is : (level : Bool) → TableOnly (m .activities) masks (rankMask m level) → (word : ℕ)
       → outrankingOf masks word ≡ outranking (m .activities) (rankMask m level) word
   unfolding outrankingOf outranking
   outranking-is level ranked word =

@@ -16,9 +16,8 @@ use Rattle.laws.proofs.Counting.{T-ext, all-ext}
 use Rattle.laws.proofs.Sums.{greatest-bound, greatest-each}
 use Rattle.laws.proofs.Sound.{waits-sound}
 use Rattle.laws.proofs.Words.{wordOf-ext, wordOf-lt, word-ext, bit-wordOf}
-use Rattle.laws.proofs.RowLaws.{brokenMask}
 use Rattle.bits.proofs.WordLaws.{bit-and, zero-bits}
-use Rattle.checks.specs.Tables.{any, waitsFrom, waitingMask, rankMask, outranking}
+use Rattle.checks.specs.Tables.{brokenMask, any, waitsFrom, waitingMask, rankMask, outranking}
 
 -- a term that counts only where a test passes
 counted : (t : Bool) (x : ℕ) → T t → cond t x 0 ≡ x

@@ -19,7 +19,7 @@ use Rattle.laws.proofs.Steps.{all-start}
 use Rattle.laws.proofs.Words.{bit-wordOf, word-ext, wordOf-ext, wordOf-lt}
 use Rattle.bits.proofs.WordLaws.{bit-and, bit-not, bit-or, bit-zero}
 use Rattle.checks.specs.declared.windows.OpenSet.{OpenSet}
-use Rattle.checks.specs.Tables.{Holds}
+use Rattle.checks.specs.Tables.{TableOf}
 use Rattle.checks.specs.Rules.{noneOutside}
 use Rattle.checks.specs.Windows.{openOf, Quiet, Stands, without}
 
@@ -99,7 +99,7 @@ stray-next n froms ends word t strays opened few e a l h =
 
 -- what is active outside its window, from tables of starts and ends
 pub strays-read : (m : Model) (p : Plan) (starts ends : List ℕ) (horizon n strays : ℕ) → horizon ≡ m .horizon
-    → n ≡ m .activities → Holds m starts (p .start) → Holds m ends (p .end)
+    → n ≡ m .activities → TableOf m starts (p .start) → TableOf m ends (p .end)
     → ((a : ℕ) → a < n → bit strays a
     ≡ not (all horizon (λ t. active p t a ⇒ (leb (getD starts a 0) t && ltb t (getD ends a 0)))))
     → (a : ℕ) → a < m .activities → bit strays a ≡ not (noneOutside m p a)

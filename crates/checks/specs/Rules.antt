@@ -16,7 +16,7 @@ use Rattle.schedule.specs.Numbers.{ruleNumber}
 use Rattle.schedule.specs.declared.RuleRefusal.{RuleRefusal}
 use Rattle.checks.specs.declared.activity.ActivityRule.{ActivityRule}
 use Rattle.checks.specs.declared.activity.Following.{Following}
-use Rattle.checks.specs.Tables.{Holds, finishOf, tickRule, loadRule, rankRule}
+use Rattle.checks.specs.Tables.{TableOf, finishOf, tickRule, loadRule, rankRule}
 
 abbrev pub activityName : ActivityRule → RuleRefusal
 activityName ActivityRule.Window = RuleRefusal.Window
@@ -43,10 +43,10 @@ earlyFrom preceding start n ends delays =
 pub record Counted (m : Model) (p : Plan) (outside : ℕ) (counts finishes ends delays : List ℕ) : Type 0 where
   pub few : m .activities ≤ 32
   pub strays : (a : ℕ) → a < m .activities → bit outside a ≡ not (noneOutside m p a)
-  pub count-ticks : Holds m counts (countOf m p)
-  pub finish-ticks : Holds m finishes (finishOf m p)
-  pub end-ticks : Holds m ends (p .end)
-  pub delay-ticks : Holds m delays (m .delay)
+  pub count-ticks : TableOf m counts (countOf m p)
+  pub finish-ticks : TableOf m finishes (finishOf m p)
+  pub end-ticks : TableOf m ends (p .end)
+  pub delay-ticks : TableOf m delays (m .delay)
 
 -- the rules of activities in the order in which the code tries them
 abbrev pub activityOrder : List ActivityRule

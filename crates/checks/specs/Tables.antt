@@ -18,11 +18,11 @@ use Rattle.checks.specs.declared.tick.TickRule.{TickRule}
 use Rattle.checks.specs.Windows.{without}
 
 -- a table of 32 numbers holds f at each activity of the model
-abbrev pub Holds : Model → List ℕ → (ℕ → ℕ) → Type 0
-Holds m table f = (a : ℕ) → a < m .activities → getD table a 0 ≡ f a
+abbrev pub TableOf : Model → List ℕ → (ℕ → ℕ) → Type 0
+TableOf m table f = (a : ℕ) → a < m .activities → getD table a 0 ≡ f a
 
 -- it holds f at each number below n, and 0 from there on
-pub record HoldsOnly (n : ℕ) (table : List ℕ) (f : ℕ → ℕ) : Type 0 where
+pub record TableOnly (n : ℕ) (table : List ℕ) (f : ℕ → ℕ) : Type 0 where
   pub below : (a : ℕ) → a < n → getD table a 0 ≡ f a
   pub beyond : (a : ℕ) → n ≤ a → getD table a 0 ≡ 0
 
@@ -30,6 +30,10 @@ pub record HoldsOnly (n : ℕ) (table : List ℕ) (f : ℕ → ℕ) : Type 0 whe
 pub record Tallied (word : ℕ) (counts counts′ : List ℕ) : Type 0 where
   pub sized : length counts′ ≡ 32
   pub one-more : (a : ℕ) → a < 32 → getD counts′ a 0 ≡ getD counts a 0 + cond (bit word a) 1 0
+
+-- the columns of row a at which a rule's test fails, as a word
+unfoldable pub brokenMask : Rule → ℕ → ℕ
+brokenMask r a = wordOf (r .columns) (λ b. not (r .test a b))
 
 -- p holds of some i < n
 unfoldable pub any : ℕ → (ℕ → Bool) → Bool
@@ -99,22 +103,22 @@ breakingOf TickRule.Tie word c opened masks =
 -- the tables that the rules of ticks are tried with
 pub record Timed (m : Model) (p : Plan) (froms ends priorities : List ℕ) : Type 0 where
   pub few : m .activities ≤ 32
-  pub from-ticks : Holds m froms (waitsFrom m p)
-  pub end-ticks : Holds m ends (p .end)
-  pub ranks : Holds m priorities (priorityOf m)
+  pub from-ticks : TableOf m froms (waitsFrom m p)
+  pub end-ticks : TableOf m ends (p .end)
+  pub ranks : TableOf m priorities (priorityOf m)
 
 -- the masks by which 29 and 31 compare a waiting activity; the others compare none
 abbrev pub Ranked : TickRule → Model → List ℕ → Type 0
 Ranked TickRule.Cores m masks = Unit
-Ranked TickRule.Preemption m masks = HoldsOnly (m .activities) masks (rankMask m false)
+Ranked TickRule.Preemption m masks = TableOnly (m .activities) masks (rankMask m false)
 Ranked TickRule.Idle m masks = Unit
-Ranked TickRule.Tie m masks = HoldsOnly (m .activities) masks (rankMask m true)
+Ranked TickRule.Tie m masks = TableOnly (m .activities) masks (rankMask m true)
 
 -- the tables hold what a rule of ticks needs of a model and a plan
 pub record Tabled (rule : TickRule) (m : Model) (p : Plan) (froms ends masks : List ℕ) : Type 0 where
   pub few : m .activities ≤ 32
-  pub from-ticks : Holds m froms (waitsFrom m p)
-  pub end-ticks : Holds m ends (p .end)
+  pub from-ticks : TableOf m froms (waitsFrom m p)
+  pub end-ticks : TableOf m ends (p .end)
   pub ranked : Ranked rule m masks
 
 -- the latest that a's predecessors let go, where `done b` is when activity b is done

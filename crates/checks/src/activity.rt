@@ -19,8 +19,8 @@ ghost use Rattle.schedule.specs.Model.{model, within};
 ghost use Rattle.schedule.specs.Timing.{inTime};
 ghost use Rattle.schedule.specs.Plan.{plan, planTiming};
 ghost use Rattle.schedule.specs.Checks.{window};
-ghost use Rattle.laws.proofs.RowLaws.{brokenMask};
 ghost use Rattle.records.specs.Reads.{passNumbers};
+ghost use Rattle.checks.specs.Tables.{brokenMask};
 ghost use Rattle.checks.specs.Rules.{activityName, activityRule, activityOrder, behind, firstOf, earlyFrom, noneOutside, Counted};
 
 // The rules that are tried at activities.

@@ -7,11 +7,10 @@ ghost use mathlib.Core.Bool.{cond};
 ghost use Prim.Native.Nat.{ℕ, _+_, _≤_, _<_, max};
 ghost use lib.ListN.{length, getD};
 ghost use Rattle.schedule.specs.Bounded.{wordOf};
-ghost use Rattle.schedule.specs.Model.{model};
+ghost use Rattle.schedule.specs.Model.{model, Ordered};
 ghost use Rattle.schedule.specs.Plan.{plan};
-ghost use Rattle.checks.specs.Tables.{after, columnOf, finishOf, fromOf, outranksFrom, Holds, HoldsOnly, Tallied};
+ghost use Rattle.checks.specs.Tables.{after, columnOf, finishOf, fromOf, outranksFrom, TableOf, TableOnly, Tallied};
 ghost use Rattle.schedule.specs.Checks.{countOf};
-ghost use Rattle.laws.proofs.EfeLaws.{Ordered};
 
 // What a table that is read from the records holds.
 pub(crate) enum Column {
@@ -48,7 +47,7 @@ fn tally(word: u32, counts: &mut [u32; 32])
 // "count(a) is the number of words with bit a"
 pub(crate) fn counts(s: &[u8], r: &[u8]) -> [u32; 32]
     requires { ⌜ model (now s) .activities ≤ 32 ⌝ }
-    ensures { λ x. ⌜ Holds (model (now (s .entry))) x (countOf (model (now (s .entry))) (plan (now (r .entry)))) ⌝ }
+    ensures { λ x. ⌜ TableOf (model (now (s .entry))) x (countOf (model (now (s .entry))) (plan (now (r .entry)))) ⌝ }
 {
     let sizes = records::model::counts(s);
     let horizon = sizes.horizon;
@@ -118,7 +117,7 @@ fn value(column: Column, s: &[u8], r: &[u8], a: Activity) -> u32
 // The table of the model's activities.
 pub(crate) fn tabulate(column: Column, s: &[u8], r: &[u8]) -> [u32; 32]
     requires { ⌜ model (now s) .activities ≤ 32 ⌝ }
-    ensures { λ x. ⌜ Holds (model (now (s .entry))) x (columnOf column (model (now (s .entry))) (plan (now (r .entry)))) ⌝ }
+    ensures { λ x. ⌜ TableOf (model (now (s .entry))) x (columnOf column (model (now (s .entry))) (plan (now (r .entry)))) ⌝ }
 {
     let sizes = records::model::counts(s);
     let n = sizes.activities;
@@ -165,7 +164,7 @@ fn rank_mask(n: u8, priorities: &[u32; 32], level: bool, a: Activity) -> u32
 // The table of those masks: nothing outranks an activity that the model does not have.
 pub(crate) fn rank_masks(n: u8, priorities: &[u32; 32], level: bool) -> [u32; 32]
     requires { ⌜ n ≤ 32 ⌝ }
-    ensures { λ r. ⌜ HoldsOnly n r (λ a. wordOf n (outranksFrom (now (priorities .entry)) level a)) ⌝ }
+    ensures { λ r. ⌜ TableOnly n r (λ a. wordOf n (outranksFrom (now (priorities .entry)) level a)) ⌝ }
 {
     let mut masks = [0u32; 32];
     let mut number: u8 = 0;
@@ -231,9 +230,9 @@ fn earliest(s: &[u8], r: &[u8], n: u8, a: Activity, delays: &[u32; 32], done: &[
 pub(crate) fn finishes(s: &[u8], r: &[u8], counts: &[u32; 32], delays: &[u32; 32]) -> [u32; 32]
     requires { ⌜ model (now s) .activities ≤ 32 ⌝ }
     requires { ⌜ Ordered (model (now s)) ⌝ }
-    requires { ⌜ Holds (model (now s)) (now counts) (countOf (model (now s)) (plan (now r))) ⌝ }
-    requires { ⌜ Holds (model (now s)) (now delays) (model (now s) .delay) ⌝ }
-    ensures { λ x. ⌜ Holds (model (now (s .entry))) x (finishOf (model (now (s .entry))) (plan (now (r .entry)))) ⌝ }
+    requires { ⌜ TableOf (model (now s)) (now counts) (countOf (model (now s)) (plan (now r))) ⌝ }
+    requires { ⌜ TableOf (model (now s)) (now delays) (model (now s) .delay) ⌝ }
+    ensures { λ x. ⌜ TableOf (model (now (s .entry))) x (finishOf (model (now (s .entry))) (plan (now (r .entry)))) ⌝ }
 {
     let sizes = records::model::counts(s);
     let n = sizes.activities;
@@ -258,8 +257,9 @@ pub(crate) fn froms(
     requires { ⌜ model (now s) .activities ≤ 32 ⌝ }
     requires { ⌜ ((b : ℕ) → b < model (now s) .activities → getD (now ends) b 0 < 2147483648) ⌝ }
     requires { ⌜ ((b : ℕ) → b < model (now s) .activities → getD (now counts) b 0 ≤ getD (now finishes) b 0) ⌝ }
-    requires { ⌜ Holds (model (now s)) (now delays) (model (now s) .delay) ⌝ }
-    ensures { λ x. ⌜ Holds (model (now (s .entry))) x (fromOf (model (now (s .entry))) (now (finishes .entry)) (now (counts .entry)) (now (ends .entry))) ⌝ }
+    requires { ⌜ TableOf (model (now s)) (now delays) (model (now s) .delay) ⌝ }
+    ensures { λ x. ⌜ TableOf (model (now (s .entry))) x
+        (fromOf (model (now (s .entry))) (now (finishes .entry)) (now (counts .entry)) (now (ends .entry))) ⌝ }
 {
     let sizes = records::model::counts(s);
     let n = sizes.activities;

@@ -11,7 +11,7 @@ ghost use lib.ListN.{getD};
 ghost use Rattle.schedule.specs.Bounded.{all, bit, _⇒_};
 ghost use Rattle.schedule.specs.Plan.{plan, active};
 ghost use Rattle.schedule.specs.Model.{model};
-ghost use Rattle.checks.specs.Tables.{Holds};
+ghost use Rattle.checks.specs.Tables.{TableOf};
 ghost use Rattle.checks.specs.Rules.{noneOutside};
 ghost use Rattle.checks.specs.Windows.{openOf, without, Quiet, Stands};
 
@@ -111,7 +111,7 @@ fn outside(r: &[u8], horizon: u16, n: usize, starts: &[u32; 32], ends: &[u32; 32
 // "none outside": the activities that break it.
 pub(crate) fn strays(s: &[u8], r: &[u8], ends: &[u32; 32]) -> u32
     requires { ⌜ model (now s) .activities ≤ 32 ⌝ }
-    requires { ⌜ Holds (model (now s)) (now ends) (plan (now r) .end) ⌝ }
+    requires { ⌜ TableOf (model (now s)) (now ends) (plan (now r) .end) ⌝ }
     ensures { λ x. ⌜ ((a : ℕ) → a < model (now (s .entry)) .activities
         → bit x a ≡ not (noneOutside (model (now (s .entry))) (plan (now (r .entry))) a)) ⌝ }
 {

@@ -42,7 +42,7 @@ use Rattle.laws.proofs.FirstBreak.{none-iff, sound-append, hold-append, hold-or
 use Rattle.laws.proofs.Sound.{modelForm-sound, planForm-sound, strictRules-sound}
 use Rattle.laws.proofs.Sums.{greatest-each, least-each}
 use Rattle.view.specs.Grid.{viewBytes, gridWord}
-use Rattle.view.proofs.GridLaws.{grid-gives}
+use Rattle.view.proofs.HeldLaws.{grid-gives}
 use Rattle.demands.specs.Efe.{Largest}
 use Rattle.demands.specs.Strict.{HasChoices, planWritten}
 use Rattle.demands.proofs.Demand2.{plain-accepted, plain-keeps, strict-breaks-rule, strict-passes-rules}

@@ -13,7 +13,7 @@ use lib.Seq.{take-at}
 use Rattle.schedule.specs.declared.RunRefusal.{RunRefusal}
 use Rattle.schedule.specs.Fields.{Bytes}
 use Rattle.schedule.specs.Rule.{AllHold}
-use Rattle.schedule.specs.Model.{model, modelForm}
+use Rattle.schedule.specs.Model.{model, modelForm, Formed}
 use Rattle.schedule.specs.Timing.{InTime, deadlineRule}
 use Rattle.schedule.specs.Choice.{choice, choiceTiming, choiceForm}
 use Rattle.schedule.specs.Plan.{plan, planTiming, planForm, planBytes}
@@ -34,7 +34,7 @@ use Rattle.laws.proofs.Sums.{figures-ext}
 use Rattle.laws.proofs.Unique.{Beside, same-word, same-start, same-end, nothing-owed}
 use Rattle.laws.proofs.Exists.{Made, counted, keeps}
 use Rattle.demands.specs.Strict.{HasChoices, PassesWith, Passes, Succeeds, planWritten, SingleStrictPlan, Demand3}
-use Rattle.laws.proofs.Formed.{Formed, model-says, Chosen, choice-says}
+use Rattle.laws.proofs.Formed.{model-says, Chosen, choice-says}
 use Rattle.demands.proofs.Demand2.{
   strict-accepted,
   strict-passes,

@@ -8,7 +8,7 @@ use mathlib.Core.List.{List, _∷_, _++_}
 use mathlib.Core.Logic.{⊎-elim}
 use mathlib.Core.Path.{_≡_, refl, sym, ap, _∙_}
 use lib.ListN.{length, drop}
-use Rattle.schedule.specs.Bounded.{rows}
+use Rattle.schedule.specs.Bounded.{chain}
 use Rattle.schedule.specs.Fields.{Bytes}
 use Rattle.schedule.specs.Rule.{AllHold}
 use Rattle.schedule.specs.Model.{model, modelForm}
@@ -26,7 +26,7 @@ use Rattle.schedule.specs.Answers.{
   runBuffer,
 }
 use Rattle.schedule.specs.Lines.{shown, tickLine, runLines}
-use Rattle.laws.proofs.FieldLaws.{rows-ext}
+use Rattle.laws.proofs.FieldLaws.{chain-ext}
 use Rattle.laws.proofs.Parts.{stands-whole, stands-first}
 use Rattle.laws.proofs.PlanBytes.{ReadsFrom, reads-from}
 use Rattle.laws.proofs.FirstBreak.{hold-append}
@@ -68,8 +68,8 @@ same-page : (w : Written) (p p′ : Plan) → p .horizon ≡ p′ .horizon → (
 unfolding runLines
 same-page w p p′ e h =
     ap (λ (lines : List ℕ). lines ++ (114 ∷ 117 ∷ 110 ∷ shown (accepted (w .figures))))
-    (ap (λ (k : ℕ). rows k (λ t. tickLine t (p .word t))) e
-    ∙ rows-ext (p′ .horizon) (λ t. tickLine t (p .word t)) (λ t. tickLine t (p′ .word t)) (λ t l. ap (tickLine t) (h t l)))
+    (ap (λ (k : ℕ). chain k (λ t. tickLine t (p .word t))) e
+    ∙ chain-ext (p′ .horizon) (λ t. tickLine t (p .word t)) (λ t. tickLine t (p′ .word t)) (λ t l. ap (tickLine t) (h t l)))
 
 pub page-written : (s q buffer : List ℕ) → Bytes q
     → runLines (runAnswer s q (length buffer)) (plan (runBuffer s q buffer))

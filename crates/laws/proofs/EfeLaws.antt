@@ -10,16 +10,11 @@ use mathlib.Core.Path.{_≡_, refl, sym, ap, ap₂, _∙_}
 use lib.Dec.{T}
 use lib.ListN.{length, getD, length-append, List·getD-append}
 use lib.Seq.{getD-at}
-use Rattle.schedule.specs.Model.{Model, temporally, byData}
+use Rattle.schedule.specs.Model.{Model, temporally, byData, Ordered}
 use Rattle.schedule.specs.Plan.{Plan}
 use Rattle.schedule.specs.Checks.{countOf, efeFrom, efes, efe}
 use Rattle.laws.proofs.Tests.{below-suc}
 use Rattle.laws.proofs.Sums.{greatest-ext, greatest-bound, greatest-each}
-
--- "b must be below the row's own number"
-pub record Ordered (m : Model) : Type 0 where
-  pub temporal : (a b : ℕ) → a < m .activities → b < m .activities → T (temporally m b a) → b < a
-  pub by-data : (a b : ℕ) → a < m .activities → b < m .activities → T (byData m b a) → b < a
 
 -- a term that counts only where a test passes
 if-same : (t : Bool) (x y : ℕ) → (T t → x ≡ y) → cond t x 0 ≡ cond t y 0

@@ -9,7 +9,7 @@ use mathlib.Core.Logic.{inl, inr}
 use mathlib.Core.Path.{_≡_, sym, subst, ap, _∙_}
 use lib.Dec.{T}
 use Rattle.schedule.specs.Bounded.{count, bit, ones, lowest}
-use Rattle.schedule.specs.Model.{Model, priorityOf, temporally, byData, Within}
+use Rattle.schedule.specs.Model.{Model, priorityOf, temporally, byData, Within, Ordered}
 use Rattle.schedule.specs.Timing.{InTime}
 use Rattle.schedule.specs.Plan.{Plan, planTiming, active}
 use Rattle.schedule.specs.Machine.{owes, endOf, ready, selected, machineWord, machineStart, machineEnd, machineOwes}
@@ -20,7 +20,7 @@ use Rattle.laws.proofs.Words.{bit-high, ones-count}
 use Rattle.laws.proofs.Selection.{Before, selected-few, selected-all, selected-first}
 use Rattle.laws.proofs.Lowest.{lowest-is, lowest-found}
 use Rattle.laws.proofs.MachineLaws.{Ready, ready-sound, at, runs, runs-selected, runs-ready, word-lt, owed-done, stays, Ended, ended}
-use Rattle.laws.proofs.EfeLaws.{Ordered, efe-release, efe-bound}
+use Rattle.laws.proofs.EfeLaws.{efe-release, efe-bound}
 
 -- A plan that keeps its window has its active ticks inside it, so rule 24 follows from rule 21.
 pub window-span : (m : Model) (p : Plan) (a : ℕ) → Window m p a → p .start a + countOf m p a ≤ p .end a

@@ -9,7 +9,7 @@ use mathlib.Core.List.{List, [], _∷_, _++_}
 use mathlib.Core.Path.{_≡_, refl, sym, ap, ap₂, _∙_}
 use lib.ListN.{length, getD, drop, length-append, List·getD-append, List·getD-eq-default}
 use lib.Seq.{getD-append-add, getD-at, getD-drop}
-use Rattle.schedule.specs.Bounded.{rows}
+use Rattle.schedule.specs.Bounded.{chain}
 use Rattle.schedule.specs.Fields.{field, bytes, Bytes}
 use Rattle.laws.proofs.Tests.{up-to}
 
@@ -93,30 +93,30 @@ field-bytes s at (suc k) v h l =
 pub row-lt : (w n j i : ℕ) → j < n → i < w → w * j + i < w * n
 row-lt w n j i h l = omega (arith, mul-suc w j, mul-le-mul-left w h)
 
-pub length-rows : (w n : ℕ) (f : ℕ → List ℕ) → ((j : ℕ) → j < n → length (f j) ≡ w) → length (rows n f) ≡ w * n
-unfolding rows
-length-rows w zero f h = sym (mul-zero w)
-length-rows w (suc n) f h =
+pub length-chain : (w n : ℕ) (f : ℕ → List ℕ) → ((j : ℕ) → j < n → length (f j) ≡ w) → length (chain n f) ≡ w * n
+unfolding chain
+length-chain w zero f h = sym (mul-zero w)
+length-chain w (suc n) f h =
     simp length-append
-    (omega (arith, length-rows w n f (λ j l. h j (omega arith)), h n (omega arith), mul-suc w n))
+    (omega (arith, length-chain w n f (λ j l. h j (omega arith)), h n (omega arith), mul-suc w n))
 
-pub getD-rows : (w n : ℕ) (f : ℕ → List ℕ) → ((j : ℕ) → j < n → length (f j) ≡ w)
-    → (j : ℕ) → j < n → (i : ℕ) → i < w → getD (rows n f) (w * j + i) 0 ≡ getD (f j) i 0
-unfolding rows
-getD-rows w zero f h = λ j l i b. absurd (omega arith)
-getD-rows w (suc n) f h =
-    let full = length-rows w n f (λ j l. h j (omega arith)) in
-    let before = getD-rows w n f (λ j l. h j (omega arith)) in
-    up-to (λ j. (i : ℕ) → i < w → getD (rows n f ++ f n) (w * j + i) 0 ≡ getD (f j) i 0) n
-    (λ j l i b. List·getD-append (rows n f) (f n) 0 (w * j + i) (omega (arith, row-lt w n j i l b)) ∙ before j l i b)
-    (λ i b. getD-behind (rows n f) (f n) i (w * n + i) (omega arith))
+pub getD-chain : (w n : ℕ) (f : ℕ → List ℕ) → ((j : ℕ) → j < n → length (f j) ≡ w)
+    → (j : ℕ) → j < n → (i : ℕ) → i < w → getD (chain n f) (w * j + i) 0 ≡ getD (f j) i 0
+unfolding chain
+getD-chain w zero f h = λ j l i b. absurd (omega arith)
+getD-chain w (suc n) f h =
+    let full = length-chain w n f (λ j l. h j (omega arith)) in
+    let before = getD-chain w n f (λ j l. h j (omega arith)) in
+    up-to (λ j. (i : ℕ) → i < w → getD (chain n f ++ f n) (w * j + i) 0 ≡ getD (f j) i 0) n
+    (λ j l i b. List·getD-append (chain n f) (f n) 0 (w * j + i) (omega (arith, row-lt w n j i l b)) ∙ before j l i b)
+    (λ i b. getD-behind (chain n f) (f n) i (w * n + i) (omega arith))
 
-pub rows-ext : (n : ℕ) (f g : ℕ → List ℕ) → ((j : ℕ) → j < n → f j ≡ g j) → rows n f ≡ rows n g
-unfolding rows
-rows-ext zero f g h = refl
-rows-ext (suc n) f g h = ap₂ _++_ (rows-ext n f g (λ j l. h j (omega arith))) (h n (omega arith))
+pub chain-ext : (n : ℕ) (f g : ℕ → List ℕ) → ((j : ℕ) → j < n → f j ≡ g j) → chain n f ≡ chain n g
+unfolding chain
+chain-ext zero f g h = refl
+chain-ext (suc n) f g h = ap₂ _++_ (chain-ext n f g (λ j l. h j (omega arith))) (h n (omega arith))
 
-pub bytes-rows : (n : ℕ) (f : ℕ → List ℕ) → ((j : ℕ) → j < n → Bytes (f j)) → Bytes (rows n f)
-unfolding rows
-bytes-rows zero f h = λ i l. absurd (omega arith)
-bytes-rows (suc n) f h = bytes-append (rows n f) (f n) (bytes-rows n f (λ j l. h j (omega arith))) (h n (omega arith))
+pub bytes-chain : (n : ℕ) (f : ℕ → List ℕ) → ((j : ℕ) → j < n → Bytes (f j)) → Bytes (chain n f)
+unfolding chain
+bytes-chain zero f h = λ i l. absurd (omega arith)
+bytes-chain (suc n) f h = bytes-append (chain n f) (f n) (bytes-chain n f (λ j l. h j (omega arith))) (h n (omega arith))

@@ -1,6 +1,6 @@
 -- What a model that meets its form rules, and a choice that passes its tests, give the theorem of demand 3.
 -- Assumes nothing.
-use Prim.Native.Nat.{ℕ, _+_, _≤_, _<_}
+use Prim.Native.Nat.{ℕ, _+_, _<_}
 use native.Mathlib.Decide.{decLt}
 use native.Mathlib.Omega.{arith}
 use mathlib.Core.List.{List}
@@ -19,22 +19,14 @@ use Rattle.schedule.specs.Model.{
   maskRule,
   modelForm,
   Within,
+  Formed,
 }
 use Rattle.schedule.specs.Choice.{Choice, choice, choiceThreadRow, choiceCounts, rangeRule, durationRule, choiceForm}
 use Rattle.schedule.specs.Numbers.{formNumber}
-use Rattle.laws.proofs.EfeLaws.{Ordered}
 use Rattle.laws.proofs.FieldLaws.{field-lt}
 use Rattle.laws.proofs.FirstBreak.{says}
 
 -- rules 3, 6 and 7
-pub record Formed (m : Model) : Type 0 where
-  pub threads : Within 1 8 (m .threads)
-  pub activities : Within 1 32 (m .activities)
-  pub horizon : Within 1 4096 (m .horizon)
-  pub owner : (a : ℕ) → a < m .activities → m .thread a < m .threads
-  pub lasting : (a : ℕ) → a < m .activities → 1 ≤ m .least-duration a
-  pub ordered : Ordered m
-
 pub model-says : (s : List ℕ) → AllHold (modelForm s) → Formed (model s)
 unfolding modelForm lengthRule versionRule limitsRule formulaRule threadRule activityRule maskRule
 model-says s h =

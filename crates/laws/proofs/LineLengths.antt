@@ -7,7 +7,7 @@ use native.Mathlib.Omega.{arith}
 use mathlib.Core.List.{[], _∷_}
 use mathlib.Core.Path.{_≡_, refl}
 use lib.ListN.{length, length-append}
-use Rattle.schedule.specs.Bounded.{rows}
+use Rattle.schedule.specs.Bounded.{chain}
 use Rattle.schedule.specs.Rule.{Refusal}
 use Rattle.schedule.specs.Answers.{Answer, accepted, refused, Figures}
 use Rattle.schedule.specs.Lines.{decimal, hex, three, shown, checkLines, tickLine}
@@ -56,8 +56,8 @@ unfolding tickLine
 length-tick t w = simp (length-append, length-hex) (omega arith)
 
 -- the lines of at most ten thousand ticks have at most 14 bytes each
-pub length-ticks : (h : ℕ) (word : ℕ → ℕ) → h ≤ 10000 → length (rows h (λ t. tickLine t (word t))) ≤ 14 * h
-unfolding rows
+pub length-ticks : (h : ℕ) (word : ℕ → ℕ) → h ≤ 10000 → length (chain h (λ t. tickLine t (word t))) ≤ 14 * h
+unfolding chain
 length-ticks zero word l = omega arith
 length-ticks (suc h) word l =
     simp length-append

@@ -8,10 +8,10 @@ use native.Mathlib.Omega.{arith}
 use mathlib.Core.List.{List, _++_}
 use mathlib.Core.Path.{_≡_, _∙_}
 use lib.ListN.{length, getD, length-append, List·getD-append}
-use Rattle.schedule.specs.Bounded.{rows}
+use Rattle.schedule.specs.Bounded.{chain}
 use Rattle.schedule.specs.Fields.{field, bytes, Bytes}
 use Rattle.laws.proofs.FieldLaws.{field-injective, length-bytes, field-bytes, getD-behind}
-use Rattle.laws.proofs.FieldLaws.{row-lt, length-rows, getD-rows}
+use Rattle.laws.proofs.FieldLaws.{row-lt, length-chain, getD-chain}
 
 -- ---- the list b stands in s from position at
 
@@ -41,11 +41,11 @@ stands-next s at k v c h l =
 
 -- row j of the rows of w that stand there
 pub stands-row : (s : List ℕ) (at w n : ℕ) (f : ℕ → List ℕ) → ((j : ℕ) → j < n → length (f j) ≡ w)
-    → Stands s at (rows n f) → (j : ℕ) → j < n → Stands s (at + w * j) (f j)
+    → Stands s at (chain n f) → (j : ℕ) → j < n → Stands s (at + w * j) (f j)
 stands-row s at w n f e h j l i b =
     let small : i < w = omega (arith, e j l) in
     rw add-assoc
-    (h (w * j + i) (omega (arith, row-lt w n j i l small, length-rows w n f e)) ∙ getD-rows w n f e j l i small)
+    (h (w * j + i) (omega (arith, row-lt w n j i l small, length-chain w n f e)) ∙ getD-chain w n f e j l i small)
 
 -- ---- two lists are alike from one position up to another
 

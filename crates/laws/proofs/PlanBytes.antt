@@ -5,10 +5,10 @@ use native.Mathlib.Omega.{arith}
 use mathlib.Core.List.{List, _++_}
 use mathlib.Core.Path.{_≡_}
 use lib.ListN.{length, length-append}
-use Rattle.schedule.specs.Bounded.{rows}
+use Rattle.schedule.specs.Bounded.{chain}
 use Rattle.schedule.specs.Fields.{field, bytes, pair, pairRow, Bytes}
 use Rattle.schedule.specs.Plan.{Plan, plan, planBytes, planLength, planThreadRow, gridAt, tickAt, pairRows}
-use Rattle.laws.proofs.FieldLaws.{length-bytes, bytes-bytes, length-rows, bytes-append, bytes-rows}
+use Rattle.laws.proofs.FieldLaws.{length-bytes, bytes-bytes, length-chain, bytes-append, bytes-chain}
 use Rattle.laws.proofs.Parts.{Stands, stands-whole, stands-first, stands-second}
 use Rattle.laws.proofs.Parts.{stands-field, stands-next, stands-row}
 
@@ -43,7 +43,7 @@ ReadsBack p = ReadsFrom p (planBytes p)
 
 -- the bytes of a plan from each of its parts on
 abbrev words : Plan → List ℕ
-words p = rows (p .horizon) (λ t. bytes 4 (p .word t))
+words p = chain (p .horizon) (λ t. bytes 4 (p .word t))
 
 abbrev spans : Plan → List ℕ
 spans p = pairRows (p .activities) (p .start) (p .end) ++ words p
@@ -79,7 +79,7 @@ length-planBytes p =
       arith,
       length-pairs (p .threads) (p .release) (p .period),
       length-pairs (p .activities) (p .start) (p .end),
-      length-rows 4 (p .horizon) (λ t. bytes 4 (p .word t)) (λ t _. length-bytes 4 (p .word t)),
+      length-chain 4 (p .horizon) (λ t. bytes 4 (p .word t)) (λ t _. length-bytes 4 (p .word t)),
     ))
 
 bytes-pair : (x y : ℕ) → Bytes (pair x y)
@@ -90,7 +90,7 @@ bytes-field k v c h = bytes-append (bytes k v) c (bytes-bytes k v) h
 
 bytes-pairs : (n : ℕ) (f g : ℕ → ℕ) (c : List ℕ) → Bytes c → Bytes (pairRows n f g ++ c)
 bytes-pairs n f g c h =
-    bytes-append (pairRows n f g) c (bytes-rows n (λ j. pair (f j) (g j)) (λ j _. bytes-pair (f j) (g j))) h
+    bytes-append (pairRows n f g) c (bytes-chain n (λ j. pair (f j) (g j)) (λ j _. bytes-pair (f j) (g j))) h
 
 pub bytes-planBytes : (p : Plan) → Bytes (planBytes p)
 unfolding planBytes
@@ -102,7 +102,7 @@ bytes-planBytes p =
     (bytes-field 2 (p .horizon) (choices p)
     (bytes-pairs (p .threads) (p .release) (p .period) (spans p)
     (bytes-pairs (p .activities) (p .start) (p .end) (words p)
-    (bytes-rows (p .horizon) (λ t. bytes 4 (p .word t)) (λ t _. bytes-bytes 4 (p .word t)))))))))
+    (bytes-chain (p .horizon) (λ t. bytes 4 (p .word t)) (λ t _. bytes-bytes 4 (p .word t)))))))))
 
 -- ---- the round trip
 

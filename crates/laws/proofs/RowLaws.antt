@@ -1,19 +1,15 @@
--- A rule tried row by row: what a loop over its rows knows, and the row's answer read off a mask of its columns.
+-- A rule tried row by row: what a loop over its rows knows, and what a row answers.
 -- Assumes nothing.
-use Prim.Native.Nat.{ℕ, _+_, _≤_, _<_}
-use native.Mathlib.Decide.{decLt}
+use Prim.Native.Nat.{ℕ, _+_, _<_}
 use native.Mathlib.Omega.{arith}
-use mathlib.Core.Bool.{Bool, not, cond}
-use mathlib.Core.Logic.{_⊎_, ⊎-elim}
+use mathlib.Core.Bool.{Bool, cond}
 use mathlib.Core.Option.{Option, some, none}
-use mathlib.Core.Path.{_≡_, sym, subst, ap}
+use mathlib.Core.Path.{_≡_, ap}
 use lib.Dec.{T}
-use Rattle.schedule.specs.Bounded.{first, lowest, bit, wordOf}
+use Rattle.schedule.specs.Bounded.{first}
 use Rattle.schedule.specs.Rule.{Rule, Refusal, break}
-use Rattle.laws.proofs.Tests.{T-not, up-to}
-use Rattle.laws.proofs.Counting.{decT, T-true, T-false}
-use Rattle.laws.proofs.Words.{bit-wordOf, bit-high, wordOf-lt}
-use Rattle.laws.proofs.Lowest.{lowest-is}
+use Rattle.laws.proofs.Tests.{up-to}
+use Rattle.laws.proofs.Counting.{T-true, T-false}
 use Rattle.laws.proofs.FirstBreak.{first-none, first-some}
 
 -- the refusal of a rule at a place
@@ -70,37 +66,3 @@ row-broken r a b l h f =
         earlier = λ j k. passed (r .test a j) (refusalAt r a j) (h j k);
       },
     )
-
--- the columns of row a at which a rule's test fails, as a word
-unfoldable pub brokenMask : Rule → ℕ → ℕ
-brokenMask r a = wordOf (r .columns) (λ b. not (r .test a b))
-
-mask-bit : (r : Rule) (a b : ℕ) → b < r .columns → bit (brokenMask r a) b ≡ not (r .test a b)
-unfolding brokenMask
-mask-bit r a b l = bit-wordOf (r .columns) (λ b. not (r .test a b)) b l
-
-twice : (t : Bool) → (¬ T (not t)) → T t
-twice t f = ⊎-elim (λ x. x) (λ x. absurd (f (T-not t .1 x))) (decT t)
-
-clear-bit : (r : Rule) (a b : ℕ) → b < r .columns → (¬ T (bit (brokenMask r a) b)) → T (r .test a b)
-clear-bit r a b l f = twice (r .test a b) (λ x. f (subst T (sym (mask-bit r a b l)) x))
-
--- an empty mask: the row is clear
-pub mask-clear : (r : Rule) (a : ℕ) → r .columns ≤ 32 → ((b : ℕ) → b < 32 → ¬ T (bit (brokenMask r a) b))
-    → rowBreak r a ≡ none
-mask-clear r a few h = row-clear r a (λ b l. clear-bit r a b l (h b (omega arith)))
-
--- a mask that is not empty: the row is broken at its lowest bit
-pub mask-broken : (r : Rule) (a : ℕ) → r .columns ≤ 32 → lowest 32 (bit (brokenMask r a)) < 32
-    → rowBreak r a ≡ some (refusalAt r a (lowest 32 (bit (brokenMask r a))))
-unfolding brokenMask
-mask-broken r a few l =
-    let low = lowest-is 32 (bit (brokenMask r a)) in
-    let b : ℕ = lowest 32 (bit (brokenMask r a)) in
-    let column : b < r .columns = elim (decLt b (r .columns)) [
-      | yes h ↦ h
-      | no h ↦ absurd (bit-high (brokenMask r a) (r .columns) b (wordOf-lt (r .columns) (λ b. not (r .test a b))) (omega arith) (low .found l))
-    ] in
-    row-broken r a b column
-    (λ j k. clear-bit r a j (omega arith) (low .none-below j k))
-    (T-not (r .test a b) .0 (subst T (mask-bit r a b column) (low .found l)))

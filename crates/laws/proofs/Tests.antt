@@ -29,6 +29,11 @@ pub T-not : (a : Bool) → T (not a) ↔ (¬ T a)
 T-not true = (λ x _. x, λ h. h tt)
 T-not false = (λ _ x. x, λ h. tt)
 
+-- a test whose opposite fails passes
+pub T-not-not : (a : Bool) → (¬ T (not a)) → T a
+T-not-not true f = tt
+T-not-not false f = absurd (f tt)
+
 pub T-leb : (a b : ℕ) → T (leb a b) ↔ (a ≤ b)
 T-leb a b = (leb→le a b, le→leb a b)
 

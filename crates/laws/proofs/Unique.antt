@@ -11,7 +11,7 @@ use mathlib.Core.Path.{_≡_, sym, subst, ap, _∙_}
 use lib.Dec.{T}
 use lib.Pow.{pow-mono}
 use Rattle.schedule.specs.Bounded.{count, bit, ones}
-use Rattle.schedule.specs.Model.{Model, temporally, byData}
+use Rattle.schedule.specs.Model.{Model, temporally, byData, Ordered}
 use Rattle.schedule.specs.Plan.{Plan, active}
 use Rattle.schedule.specs.Machine.{State, owes, endOf, ready, machineWord, machineStart, machineEnd, machineOwes}
 use Rattle.schedule.specs.Checks.{countOf, efe, Waiting}
@@ -21,7 +21,7 @@ use Rattle.laws.proofs.Words.{bit-high, word-ext, ones-count}
 use Rattle.laws.proofs.Selection.{Before, Picked, picked-selected}
 use Rattle.laws.proofs.Lowest.{lowest-unique}
 use Rattle.laws.proofs.MachineLaws.{Ready, ready-sound, at, runs, owes-first, owes-next, runs-selected, word-lt, end-idle, end-last}
-use Rattle.laws.proofs.EfeLaws.{Ordered, efe-release, efe-bound}
+use Rattle.laws.proofs.EfeLaws.{efe-release, efe-bound}
 
 -- What a plan is beside a model and the machine's releases and durations: its words are 32 bits wide with no bit from
 -- m on, its releases are the machine's, and its counts are the durations.

@@ -8,24 +8,24 @@ use mathlib.Core.List.{List}
 use mathlib.Core.Path.{_≡_, sym, subst, ap, ap₂, _∙_}
 use lib.Dec.{eqb, ltb}
 use lib.ListN.{length, getD}
-use Rattle.schedule.specs.Bounded.{rows}
+use Rattle.schedule.specs.Bounded.{chain}
 use Rattle.schedule.specs.Fields.{bytes}
 use Rattle.schedule.specs.Model.{Model, priorityOf}
 use Rattle.schedule.specs.Choice.{Choice}
 use Rattle.schedule.specs.Plan.{tickAt}
 use Rattle.schedule.specs.Machine.{before, stateAt, machineWord, machineEnd, machineOwes}
-use Rattle.laws.proofs.FieldLaws.{length-bytes, length-rows}
+use Rattle.laws.proofs.FieldLaws.{length-bytes, length-chain}
 use Rattle.laws.proofs.Words.{wordOf-ext}
 use Rattle.fields.specs.Put.{put}
 use Rattle.fields.proofs.PutLaws.{put-nil, put-next, length-put}
 use Rattle.run.specs.declared.tables.Column.{Column}
-use Rattle.run.specs.Masks.{Holds, beforeMask, tickWord, Tabled, Masked, Keeps, Stepped}
+use Rattle.run.specs.Masks.{TableOf, beforeMask, tickWord, Tabled, Masked, Keeps, Stepped}
 use Rattle.run.specs.Tables.{entryOf, Filled, beforeFrom, beforesFrom}
 use Rattle.run.specs.Grid.{gridBytes, Finished}
 use Rattle.run.proofs.MaskLaws.{tick-is, keeps-first, keeps-next}
 
 -- the ranking from a table of priorities is the definition's
-pub befores-are : (m : Model) (priorities : List ℕ) → Holds m priorities (priorityOf m)
+pub befores-are : (m : Model) (priorities : List ℕ) → TableOf m priorities (priorityOf m)
     → (a : ℕ) → a < m .activities → beforesFrom (m .activities) priorities a ≡ beforeMask m a
 unfolding beforesFrom beforeFrom beforeMask before
 befores-are m priorities h a l =
@@ -35,7 +35,7 @@ befores-are m priorities h a l =
 -- the words of the first k ticks take 4 bytes each
 pub length-grid : (m : Model) (q : Choice) (k : ℕ) → length (gridBytes m q k) ≡ tickAt k
 unfolding gridBytes
-length-grid m q k = length-rows 4 k _ (λ t _. length-bytes 4 (machineWord m (q .release) (q .duration) t))
+length-grid m q k = length-chain 4 k _ (λ t _. length-bytes 4 (machineWord m (q .release) (q .duration) t))
 
 -- What holds at tick t.
 pub record Running (m : Model) (q : Choice) (n cores horizon : ℕ) (releases delays temporal by-data befores grid₀ : List ℕ)
@@ -59,7 +59,7 @@ pub running-start : (m : Model) (q : Choice) (n cores horizon : ℕ) (releases d
     → Filled n (entryOf Column.Priority m q) priorities → Filled n (beforesFrom n priorities) befores
     → Filled n (entryOf Column.Duration m q) owed → Filled n (λ _. 0) ends
     → Running m q n cores horizon releases delays temporal by-data befores grid grid owed ends 0
-unfolding gridBytes rows
+unfolding gridBytes chain
 running-start m q n cores horizon releases delays temporal by-data priorities befores grid owed ends en ec eh few narrow room r d x y p b o f =
     record {
       n-is = en;
@@ -84,7 +84,7 @@ running-start m q n cores horizon releases delays temporal by-data priorities be
       written = sym (put-nil 0 grid);
     }
   where
-    held : (g : ℕ → ℕ) (l : List ℕ) → ((a : ℕ) → a < n → getD l a 0 ≡ g a) → Holds m l g
+    held : (g : ℕ → ℕ) (l : List ℕ) → ((a : ℕ) → a < n → getD l a 0 ≡ g a) → TableOf m l g
     held g l h a k = h a (omega arith)
 
 module _ (m : Model) (q : Choice) (n cores horizon : ℕ) (releases delays temporal by-data befores grid₀ grid owed ends : List ℕ)
@@ -94,7 +94,7 @@ module _ (m : Model) (q : Choice) (n cores horizon : ℕ) (releases delays tempo
       → Stepped n word t owed ends owed′ ends′
       → grid′ ≡ put (tickAt t) (bytes 4 word) grid
       → Running m q n cores horizon releases delays temporal by-data befores grid₀ grid′ owed′ ends′ (t + 1)
-  unfolding gridBytes rows machineWord
+  unfolding gridBytes chain machineWord
   running-next word grid′ owed′ ends′ masked l ew stepped eg =
       record {
         n-is = h .n-is;

@@ -26,7 +26,7 @@ use Rattle.laws.proofs.Words.{wordOf-ext, wordOf-lt, bit-wordOf, bit-high, ones
 use Rattle.bits.proofs.WordLaws.{bit-and, bit-not, bit-zero, zero-bits}
 use Rattle.bits.proofs.Apart.{lowest-lt, lowest-set, gone, kept}
 use Rattle.bits.specs.WithBit.{withoutBit}
-use Rattle.run.specs.Masks.{Holds, covered, endedFrom, endedMask, readyFrom, selectedFrom, beforeMask, readyMask, tickWord}
+use Rattle.run.specs.Masks.{TableOf, covered, endedFrom, endedMask, readyFrom, selectedFrom, beforeMask, readyMask, tickWord}
 use Rattle.run.specs.Tables.{Filled}
 use Rattle.run.specs.Masks.{Tabled, Masked, Keeps, Stepped}
 
@@ -84,7 +84,7 @@ covered-all n x p few small low = T-ext _ _ there back
 module _ (m : Model) (release : ℕ → ℕ) (releases delays temporal by-data befores : List ℕ)
     (tabled : Tabled m release releases delays temporal by-data befores) (masked : Masked m) where
   -- the activities that have ended with their delay are those of the definition
-  ended-is : (s : State) (owed ends waits : List ℕ) (delay : ℕ → ℕ) (t : ℕ) → Keeps m s owed ends → Holds m waits delay
+  ended-is : (s : State) (owed ends waits : List ℕ) (delay : ℕ → ℕ) (t : ℕ) → Keeps m s owed ends → TableOf m waits delay
       → endedMask (m .activities) owed ends waits t ≡ wordOf (m .activities) (λ b. endedBy s b (delay b) t)
   unfolding endedFrom endedMask endedBy
   ended-is s owed ends waits delay t keeps held =
@@ -92,7 +92,7 @@ module _ (m : Model) (release : ℕ → ℕ) (releases delays temporal by-data b
       ap₂ _&&_ (ap (λ (x : ℕ). eqb x 0) (keeps .owed-ticks b l))
       (ap₂ (λ (x y : ℕ). leb (x + y) t) (keeps .end-ticks b l) (held b l)))
 
-  ready-is : (s : State) (owed ends none : List ℕ) (t : ℕ) → Keeps m s owed ends → Holds m none (λ _. 0)
+  ready-is : (s : State) (owed ends none : List ℕ) (t : ℕ) → Keeps m s owed ends → TableOf m none (λ _. 0)
       → (a : ℕ) → a < m .activities
       → readyFrom owed releases temporal by-data (endedMask (m .activities) owed ends delays t)
       (endedMask (m .activities) owed ends none t) t a
@@ -111,7 +111,7 @@ module _ (m : Model) (release : ℕ → ℕ) (releases delays temporal by-data b
       ∙ and-assoc (ltb 0 (owes s a)) (leb (release (m .thread a)) t) _
 
   -- the ready mask holds the ready
-  pub ready-mask-is : (s : State) (owed ends none : List ℕ) (t : ℕ) → Keeps m s owed ends → Holds m none (λ _. 0)
+  pub ready-mask-is : (s : State) (owed ends none : List ℕ) (t : ℕ) → Keeps m s owed ends → TableOf m none (λ _. 0)
       → readyMask (m .activities) releases delays temporal by-data none owed ends t
       ≡ wordOf (m .activities) (ready m release t s)
   unfolding readyMask
@@ -158,7 +158,7 @@ module _ (m : Model) (release : ℕ → ℕ) (releases delays temporal by-data b
 -- ---- the tables from tick to tick
 
 -- at the beginning: each activity owes its duration, and no end is known
-pub keeps-first : (m : Model) (release duration : ℕ → ℕ) (owed ends : List ℕ) → Holds m owed duration → Holds m ends (λ _. 0)
+pub keeps-first : (m : Model) (release duration : ℕ → ℕ) (owed ends : List ℕ) → TableOf m owed duration → TableOf m ends (λ _. 0)
     → Keeps m (stateAt m release duration 0) owed ends
 unfolding stateAt initial
 keeps-first m release duration owed ends h k = record {

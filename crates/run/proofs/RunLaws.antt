@@ -6,7 +6,6 @@ use native.Mathlib.Nat.{lt-of-lt-of-le}
 use native.Mathlib.Omega.{arith}
 use mathlib.Core.Bool.{Bool, true, false, _&&_, not, cond}
 use mathlib.Core.List.{List, [], _++_, append-assoc}
-use mathlib.Core.Logic.{⊎-elim}
 use mathlib.Core.Option.{Option, some, none}
 use mathlib.Core.Path.{_≡_, refl, sym, subst, ap, ap₂, _∙_}
 use lib.Dec.{T, eqb, ltb}
@@ -39,8 +38,7 @@ use Rattle.schedule.specs.Timing.{onTime, inTime, deadlineRule}
 use Rattle.schedule.specs.Answers.{Answer, accepted, refused, answer, figures, Written, machinePlan, owedRule, runRules}
 use Rattle.schedule.specs.Answers.{lengthNeeded, written, runChecks, Outcome, from-run, succeeded, concluded, outcome}
 use Rattle.schedule.specs.Answers.{answerOf, runAnswer, bufferAfter, runBuffer}
-use Rattle.laws.proofs.Tests.{T-not}
-use Rattle.laws.proofs.Counting.{decT}
+use Rattle.laws.proofs.Tests.{T-not, T-not-not}
 use Rattle.laws.proofs.Lowest.{Lowest, lowest-is}
 use Rattle.laws.proofs.FieldLaws.{length-bytes, field-lt, field-drop}
 use Rattle.laws.proofs.Parts.{Stands, stands-field, stands-row}
@@ -65,16 +63,13 @@ use Rattle.run.proofs.GridLaws.{length-grid}
 
 -- ---- a rule of one column, from the lowest row that breaks it
 
-twice : (t : Bool) → (¬ T (not t)) → T t
-twice t f = ⊎-elim (λ x. x) (λ x. absurd (f (T-not t .1 x))) (decT t)
-
 module _ (r : Rule) (one : r .columns ≡ 1) (i : ℕ) (low : Lowest (r .rows) (λ a. not (r .test a 0)) i) where
   clear-rows : ClearTo r i
   unfolding ClearTo
   clear-rows a l =
       row-clear r a (λ b k.
       let z : b ≡ 0 = omega (arith, one) in
-      subst (λ (x : ℕ). T (r .test a x)) (sym z) (twice (r .test a 0) (low .none-below a l)))
+      subst (λ (x : ℕ). T (r .test a x)) (sym z) (T-not-not (r .test a 0) (low .none-below a l)))
 
   pub break-at : i < r .rows → break r ≡ some (refusalAt r i 0)
   break-at l =
@@ -297,7 +292,8 @@ unfolding answerOf bufferAfter
 accepted-answers m q out out′ owed ends k f stands e ek ef eo =
     let c = concluded-succeeded m q e in
     let g = ef ∙ figures-are m q out owed ends stands in
-    let both : _≡_ {A = Written} (record { length = k; figures = figureNumbers f }) (written m q) = λ i. record { length = ek i; figures = g i } in
+    let both : _≡_ {A = Written} (record { length = k; figures = figureNumbers f }) (written m q) =
+    λ i. record { length = ek i; figures = g i } in
     record {
       says = ap {B = Answer Written} accepted both ∙ sym (ap answerOf c);
       leaves = eo ∙ plan-written m q out owed ends stands ∙ sym (ap (λ (o : Outcome). bufferAfter o m q out) c);

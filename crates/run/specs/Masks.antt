@@ -12,8 +12,8 @@ use Rattle.schedule.specs.Model.{Model, temporally, byData}
 use Rattle.schedule.specs.Machine.{State, owes, endOf, before}
 
 -- a table of 32 numbers holds f at each activity of the model
-abbrev pub Holds : Model → List ℕ → (ℕ → ℕ) → Type 0
-Holds m table f = (a : ℕ) → a < m .activities → getD table a 0 ≡ f a
+abbrev pub TableOf : Model → List ℕ → (ℕ → ℕ) → Type 0
+TableOf m table f = (a : ℕ) → a < m .activities → getD table a 0 ≡ f a
 
 -- every bit of x is a bit of y
 unfoldable pub covered : ℕ → ℕ → Bool
@@ -44,11 +44,11 @@ beforeMask m a = wordOf (m .activities) (λ b. before m b a)
 -- Tables of what the machine needs of a model and the chosen releases.
 pub record Tabled (m : Model) (release : ℕ → ℕ) (releases delays temporal by-data befores : List ℕ) : Type 0 where
   pub few : m .activities ≤ 32
-  pub release-ticks : Holds m releases (λ a. release (m .thread a))
-  pub delay-ticks : Holds m delays (m .delay)
-  pub temporal-masks : Holds m temporal (m .temporal-mask)
-  pub data-masks : Holds m by-data (m .data-mask)
-  pub before-masks : Holds m befores (beforeMask m)
+  pub release-ticks : TableOf m releases (λ a. release (m .thread a))
+  pub delay-ticks : TableOf m delays (m .delay)
+  pub temporal-masks : TableOf m temporal (m .temporal-mask)
+  pub data-masks : TableOf m by-data (m .data-mask)
+  pub before-masks : TableOf m befores (beforeMask m)
 
 -- "b must be below the row's own number", of every bit of a mask
 pub record Masked (m : Model) : Type 0 where
@@ -58,8 +58,8 @@ pub record Masked (m : Model) : Type 0 where
 
 -- Tables that hold the machine's state.
 pub record Keeps (m : Model) (s : State) (owed ends : List ℕ) : Type 0 where
-  pub owed-ticks : Holds m owed (owes s)
-  pub end-ticks : Holds m ends (endOf s)
+  pub owed-ticks : TableOf m owed (owes s)
+  pub end-ticks : TableOf m ends (endOf s)
 
 -- the activities that are ready at tick t, where `none` holds no delay for any
 unfoldable pub readyMask : ℕ → List ℕ → List ℕ → List ℕ → List ℕ → List ℕ → List ℕ → List ℕ → ℕ → ℕ

@@ -11,15 +11,15 @@ use Rattle.schedule.specs.Answers.{lengthNeeded, Outcome, answerOf, bufferAfter
 use Rattle.schedule.specs.Numbers.{runNumbers}
 use Rattle.schedule.specs.declared.RunVerdict.{RunVerdict}
 use Rattle.fields.specs.Put.{put}
-use Rattle.run.specs.Masks.{Holds}
+use Rattle.run.specs.Masks.{TableOf}
 use Rattle.run.specs.Front.{gridOf}
 use Rattle.run.specs.Grid.{gridBytes, Runs}
 
 -- Tables that hold what the machine leaves at H.
 pub record Stopped (m : Model) (q : Choice) (owed ends : List ℕ) : Type 0 where
   pub runs : Runs m
-  pub owed-ticks : Holds m owed (machineOwes m (q .release) (q .duration))
-  pub end-ticks : Holds m ends (machineEnd m (q .release) (q .duration))
+  pub owed-ticks : TableOf m owed (machineOwes m (q .release) (q .duration))
+  pub end-ticks : TableOf m ends (machineEnd m (q .release) (q .duration))
 
 -- The grid stands in the buffer, and the tables hold what the machine leaves.
 pub record Standing (m : Model) (q : Choice) (out owed ends : List ℕ) : Type 0 where

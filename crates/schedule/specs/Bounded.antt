@@ -54,9 +54,9 @@ table zero f = []
 table (suc n) f = table n f ++ (f n ∷ [])
 
 -- the lists f 0, f 1, .., f (n - 1), one after the other
-unfoldable pub rows : ℕ → (ℕ → List ℕ) → List ℕ
-rows zero f = []
-rows (suc n) f = rows n f ++ f n
+unfoldable pub chain : ℕ → (ℕ → List ℕ) → List ℕ
+chain zero f = []
+chain (suc n) f = chain n f ++ f n
 
 -- bit b of a word, worth 2 to the power b
 unfoldable pub bit : ℕ → ℕ → Bool

@@ -80,7 +80,7 @@ Right cases = map (λ c. said (c .asked)) cases ≡ map (λ c. c .expected) case
 -- every definition of the rules, of the lines and of this file, to be unfolded together where a table is computed
 unfoldable pub every : Unit {0}
 unfolding Bounded.all Bounded.count Bounded.total Bounded.greatest Bounded.least Bounded.lowest Bounded.first
-    Bounded.table Bounded.rows Bounded.bit Bounded.wordOf Bounded.ones
+    Bounded.table Bounded.chain Bounded.bit Bounded.wordOf Bounded.ones
     Fields.field Fields.bytes
     Rule.break Rule.firstBreak
     Model.model Model.lengthRule Model.versionRule Model.formulaRule Model.limitsRule Model.threadRule

@@ -4,7 +4,7 @@ use Prim.Native.Nat.{ℕ, zero, suc, _+_, _/_, _%_}
 use mathlib.Core.Bool.{cond}
 use mathlib.Core.List.{List, [], _∷_, _++_}
 use lib.Dec.{ltb}
-use Rattle.schedule.specs.Bounded.{rows}
+use Rattle.schedule.specs.Bounded.{chain}
 use Rattle.schedule.specs.Model.{model}
 use Rattle.schedule.specs.Choice.{choice}
 use Rattle.schedule.specs.Plan.{Plan}
@@ -55,7 +55,7 @@ tickLine t word = decimal t ++ (32 ∷ hex 8 word) ++ (10 ∷ [])
 -- "prints on success a line for each tick .. then `run accepted` with the three figures; else only `run refused` .."
 unfoldable pub runLines : Answer Written → Plan → List ℕ
 runLines (accepted w) p =
-    rows (p .horizon) (λ t. tickLine t (p .word t)) ++ (114 ∷ 117 ∷ 110 ∷ shown (accepted (w .figures)))
+    chain (p .horizon) (λ t. tickLine t (p .word t)) ++ (114 ∷ 117 ∷ 110 ∷ shown (accepted (w .figures)))
 runLines (refused x) p = 114 ∷ 117 ∷ 110 ∷ shown (refused x)
 
 -- the longest plan's length: gridrun's buffer

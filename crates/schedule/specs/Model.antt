@@ -171,3 +171,17 @@ modelForm s =
     ∷ activityRule m
     ∷ maskRule m
     ∷ []
+
+-- "b must be below the row's own number": every predecessor has a lower number
+pub record Ordered (m : Model) : Type 0 where
+  pub temporal : (a b : ℕ) → a < m .activities → b < m .activities → T (temporally m b a) → b < a
+  pub by-data : (a b : ℕ) → a < m .activities → b < m .activities → T (byData m b a) → b < a
+
+-- what a model that meets its form rules gives the later ones: 3, 6 and 7
+pub record Formed (m : Model) : Type 0 where
+  pub threads : Within 1 8 (m .threads)
+  pub activities : Within 1 32 (m .activities)
+  pub horizon : Within 1 4096 (m .horizon)
+  pub owner : (a : ℕ) → a < m .activities → m .thread a < m .threads
+  pub lasting : (a : ℕ) → a < m .activities → 1 ≤ m .least-duration a
+  pub ordered : Ordered m

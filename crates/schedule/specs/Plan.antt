@@ -6,7 +6,7 @@ use mathlib.Core.List.{List, [], _∷_, _++_}
 use mathlib.Core.Path.{_≡_}
 use lib.Dec.{T, eqb, leb}
 use lib.ListN.{length}
-use Rattle.schedule.specs.Bounded.{all, bit, rows, _⇒_}
+use Rattle.schedule.specs.Bounded.{all, bit, chain, _⇒_}
 use Rattle.schedule.specs.Fields.{field, bytes, pair, pairRow}
 use Rattle.schedule.specs.Rule.{Rule}
 use Rattle.schedule.specs.Model.{Model, lengthRule, versionRule, formulaRule}
@@ -86,7 +86,7 @@ planBytes p =
     ++ (bytes 2 (p .horizon)
     ++ (pairRows (p .threads) (p .release) (p .period)
     ++ (pairRows (p .activities) (p .start) (p .end)
-    ++ rows (p .horizon) (λ t. bytes 4 (p .word t))))))))
+    ++ chain (p .horizon) (λ t. bytes 4 (p .word t))))))))
 
 -- 10: its n, m or H differs from the model's
 unfoldable pub planCounts : Model → Plan → Rule

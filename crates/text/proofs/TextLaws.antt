@@ -8,7 +8,7 @@ use mathlib.Core.Path.{_≡_, refl, sym, ap, _∙_}
 use lib.ListN.{length, length-append}
 use Rattle.schedule.specs.Answers
 use Rattle.schedule.specs.Answers.{Answer, accepted, refused}
-use Rattle.schedule.specs.Bounded.{rows, total}
+use Rattle.schedule.specs.Bounded.{chain, total}
 use Rattle.schedule.specs.Plan.{plan}
 use Rattle.schedule.specs.Lines.{decimal, three, shown, checkLines, tickLine, runLines}
 use Rattle.laws.proofs.Tests.{up-to}
@@ -57,16 +57,16 @@ pub tick-parts : (t w : ℕ) → tickLine t w ≡ number t 32 ++ (inBase 16 8 w 
 unfolding tickLine number
 tick-parts t w = simp (append-assoc, hex-inBase)
 
-pub rows-none : (f : ℕ → List ℕ) → rows 0 f ≡ []
-unfolding rows
-rows-none f = refl
+pub chain-none : (f : ℕ → List ℕ) → chain 0 f ≡ []
+unfolding chain
+chain-none f = refl
 
-rows-suc : (t : ℕ) (f : ℕ → List ℕ) → rows (suc t) f ≡ rows t f ++ f t
-unfolding rows
-rows-suc t f = refl
+chain-suc : (t : ℕ) (f : ℕ → List ℕ) → chain (suc t) f ≡ chain t f ++ f t
+unfolding chain
+chain-suc t f = refl
 
-pub rows-next : (t : ℕ) (f : ℕ → List ℕ) → rows (t + 1) f ≡ rows t f ++ f t
-rows-next t f = rw add-one (rows-suc t f)
+pub chain-next : (t : ℕ) (f : ℕ → List ℕ) → chain (t + 1) f ≡ chain t f ++ f t
+chain-next t f = rw add-one (chain-suc t f)
 
 pub tick-text : (s : List ℕ) (t w : ℕ) → w ≡ wordOf s t → tickText s t ≡ tickLine t w
 unfolding tickText
@@ -76,31 +76,31 @@ pub length-text : (s : List ℕ) (t : ℕ) → length (tickText s t) ≡ tickLen
 unfolding tickText
 length-text s t = length-tick t (wordOf s t)
 
-pub length-ticks : (s : List ℕ) (h : ℕ) → length (rows h (tickText s)) ≡ total h tickLength
-unfolding total rows
+pub length-ticks : (s : List ℕ) (h : ℕ) → length (chain h (tickText s)) ≡ total h tickLength
+unfolding total chain
 length-ticks s zero = refl
 length-ticks s (suc h) = simp (length-append, length-ticks s h, length-text)
 
 -- where all rows fit, each fits behind those before it
-pub rows-most : (f : ℕ → List ℕ) (h t : ℕ) → t < h → length (rows t f) + length (f t) ≤ length (rows h f)
-rows-most f zero t l = absurd (omega arith)
-rows-most f (suc h) t l =
-    let last : length (rows (suc h) f) ≡ length (rows h f) + length (f h) =
-    ap length (rows-suc h f) ∙ length-append (rows h f) (f h)
+pub chain-most : (f : ℕ → List ℕ) (h t : ℕ) → t < h → length (chain t f) + length (f t) ≤ length (chain h f)
+chain-most f zero t l = absurd (omega arith)
+chain-most f (suc h) t l =
+    let last : length (chain (suc h) f) ≡ length (chain h f) + length (f h) =
+    ap length (chain-suc h f) ∙ length-append (chain h f) (f h)
     in
-    up-to (λ i. length (rows i f) + length (f i) ≤ length (rows (suc h) f)) h
-    (λ i s. omega (arith, last, rows-most f h i s))
+    up-to (λ i. length (chain i f) + length (f i) ≤ length (chain (suc h) f)) h
+    (λ i s. omega (arith, last, chain-most f h i s))
     (omega arith)
     t
     l
 
 -- `run`
 run-said : (v : Answer Answers.Written) (s : List ℕ)
-    → runLines v (plan s) ≡ rows (ticksOf v s) (tickText s) ++ line runName (runSaid v)
-unfolding runLines ticksOf tickText wordOf shown line verdictWord rows
+    → runLines v (plan s) ≡ chain (ticksOf v s) (tickText s) ++ line runName (runSaid v)
+unfolding runLines ticksOf tickText wordOf shown line verdictWord chain
 run-said (accepted w) s = refl
 run-said (refused x) s = refl
 
 pub run-parts : (v : Answer Answers.Written) (s : List ℕ) {h : ℕ} {said : Said} → h ≡ ticksOf v s → said ≡ runSaid v
-    → runLines v (plan s) ≡ rows h (tickText s) ++ line runName said
+    → runLines v (plan s) ≡ chain h (tickText s) ++ line runName said
 run-parts v s e d = simp (e, d) (run-said v s)

@@ -7,7 +7,7 @@ use schedule::Verdict;
 ghost use mathlib.Core.Path.{_≡_};
 ghost use Prim.Native.Nat.{_+_, _*_, _%_, _≤_, _<_};
 ghost use lib.ListN.{length};
-ghost use Rattle.schedule.specs.Bounded.{rows, total};
+ghost use Rattle.schedule.specs.Bounded.{chain, total};
 ghost use Rattle.schedule.specs.Plan;
 ghost use Rattle.schedule.specs.Numbers.{refusalNumbers, verdictNumbers, runNumbers};
 ghost use Rattle.schedule.specs.Lines.{decimal, hexDigit, three, checkLines, tickLine, runLines};
@@ -231,8 +231,8 @@ fn put_tick(out: &mut [u8], at: usize, t: u32, word: u32) -> usize
 
 // "a line for each tick", from 0 to h - 1.
 fn put_ticks(out: &mut [u8], plan: &[u8], h: u32) -> usize
-    requires { ⌜ (h < 65536) × (length (rows h (tickText (now plan))) ≤ length (now out)) ⌝ }
-    ensures { λ r. ⌜ Appended 0 (rows h (tickText (now (plan .entry)))) (now (out .entry)) r (now (out .exit)) ⌝ }
+    requires { ⌜ (h < 65536) × (length (chain h (tickText (now plan))) ≤ length (now out)) ⌝ }
+    ensures { λ r. ⌜ Appended 0 (chain h (tickText (now (plan .entry)))) (now (out .entry)) r (now (out .exit)) ⌝ }
 {
     let mut at: usize = 0;
     let mut t: u32 = 0;

@@ -1,2 +1,2 @@
 pub mod RefusalLaws
-pub mod GridLaws
+pub mod HeldLaws

@@ -5,7 +5,7 @@ use Rattle.schedule.specs.Rule.{firstBreak}
 use Rattle.schedule.specs.Model.{model}
 use Rattle.schedule.specs.Plan.{plan}
 use Rattle.checks.specs.Rules.{activityRules, untried, untriedRules}
-use Rattle.checks.proofs.GridLaws.{one-less, rule-breaks, rule-holds, rules-end}
+use Rattle.checks.proofs.RuleOrder.{one-less, rule-breaks, rule-holds, rules-end}
 use borrow.Author.Needs.{needs}
 use Rattle.checks.proofs.activity_rules.Statement.{statement}
 use Rattle.checks.proofs.activity_rules.Tie as tie

@@ -3,7 +3,7 @@ use native.Mathlib.Omega.{arith}
 use Rattle.schedule.specs.Model.{model}
 use Rattle.schedule.specs.Plan.{plan}
 use Rattle.checks.proofs.EfeTable.{end-lt}
-use Rattle.checks.proofs.GridLaws.{activities-stop, ticks-decide, timed}
+use Rattle.checks.proofs.RuleOrder.{activities-stop, ticks-decide, timed}
 use borrow.Author.Needs.{needs}
 use Rattle.checks.proofs.grid_rules.Statement.{statement}
 use Rattle.checks.proofs.grid_rules.Tie as tie

@@ -1,7 +1,7 @@
 -- `checks::tick_rules` meets its contract: rules 28 and 29, and where they hold 30 and 31 of the strict check. Assumes nothing.
 use Rattle.schedule.specs.Model.{model}
 use Rattle.schedule.specs.Plan.{plan}
-use Rattle.checks.proofs.GridLaws.{plain-stops, plain-holds, strict-decides}
+use Rattle.checks.proofs.RuleOrder.{plain-stops, plain-holds, strict-decides}
 use borrow.Author.Needs.{needs}
 use Rattle.checks.proofs.tick_rules.Statement.{statement}
 use Rattle.checks.proofs.tick_rules.Tie as tie

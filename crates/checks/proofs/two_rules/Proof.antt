@@ -9,7 +9,7 @@ use Rattle.records.specs.Rows.{sizesOf}
 use Rattle.checks.specs.declared.tick.TickRule.{TickRule}
 use Rattle.checks.specs.Tables.{tickRule, loadRule, rankRule, Tabled}
 use Rattle.checks.specs.Rules.{twoRules}
-use Rattle.checks.proofs.GridLaws.{tabled, load-ranks, rank-ranks, ranked}
+use Rattle.checks.proofs.RuleOrder.{tabled, load-ranks, rank-ranks, ranked}
 use Rattle.checks.proofs.ListLaws.{stops, goes-on, last-rule}
 use borrow.Author.Needs.{needs}
 use Rattle.checks.proofs.two_rules.Statement.{statement}

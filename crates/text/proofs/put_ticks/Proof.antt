@@ -5,16 +5,16 @@ use Prim.Native.Nat.{ℕ, _-_, _≤_}
 use native.Mathlib.Omega.{arith}
 use mathlib.Core.Path.{_≡_, ap}
 use lib.ListN.{length}
-use Rattle.schedule.specs.Bounded.{rows}
+use Rattle.schedule.specs.Bounded.{chain}
 use Rattle.text.specs.Appended.{Appended, tickText}
 use Rattle.text.proofs.AppendLaws.{appended-none, appended-both}
-use Rattle.text.proofs.TextLaws.{rows-none, rows-next, rows-most, tick-text}
+use Rattle.text.proofs.TextLaws.{chain-none, chain-next, chain-most, tick-text}
 use Rattle.text.proofs.put_ticks.Statement.{statement}
 use Rattle.text.proofs.put_ticks.Tie as tie
 
 abbrev Inv-loop : tie.InvT-loop
 Inv-loop out₀ plan h at₀ t₀ out at t =
-    ((t ≤ h) × (length out ≡ length out₀)) × Appended 0 (rows t (tickText plan)) out₀ at out
+    ((t ≤ h) × (length out ≡ length out₀)) × Appended 0 (chain t (tickText plan)) out₀ at out
 
 abbrev μ-loop : tie.MeasureT-loop
 μ-loop out₀ plan h at₀ t₀ out at t = h - t
@@ -22,7 +22,7 @@ abbrev μ-loop : tie.MeasureT-loop
 loop-holds : tie.Need-loop-holds Inv-loop μ-loop
 loop-holds c =
     let x = c .before .before .args in
-    (omega arith, rw (rows-none (tickText (x .plan .now))) (appended-none 0 (x .out .now)))
+    (omega arith, rw (chain-none (tickText (x .plan .now))) (appended-none 0 (x .out .now)))
 
 word-at-requires : tie.Need-word-at-requires Inv-loop μ-loop
 word-at-requires c κs = omega arith
@@ -34,7 +34,7 @@ put-tick-requires c κs =
     omega (
       arith,
       ap length (tick-text (x .plan .now) t (c .word-at .result) (c .word-at .ensures)),
-      rows-most (tickText (x .plan .now)) (x .h) t (c .before .before .loop-test .taken),
+      chain-most (tickText (x .plan .now)) (x .h) t (c .before .before .loop-test .taken),
     )
 
 add-t : tie.Need-add-t Inv-loop μ-loop
@@ -50,7 +50,7 @@ loop-again c =
     let w = c .before .before .before .word-at in
     let e = tick-text (x .plan .now) (l .t) (w .result) (w .ensures) in (
       omega arith,
-      rw (rows-next (l .t) (tickText (x .plan .now)))
+      rw (chain-next (l .t) (tickText (x .plan .now)))
           (appended-both (l .inv .1) (rw e (c .before .before .put-tick .ensures))),
     )
 
@@ -61,7 +61,7 @@ returns : tie.Need-returns Inv-loop μ-loop
 returns c =
     let x = c .before .before .before .before .args in
     let l = c .before .loop in
-    rw (← ap (λ (j : ℕ). rows j (tickText (x .plan .now))) {x = l .t} {y = x .h} (omega arith)) (l .inv .1)
+    rw (← ap (λ (j : ℕ). chain j (tickText (x .plan .now))) {x = l .t} {y = x .h} (omega arith)) (l .inv .1)
 
 pub put-ticks-spec : {M : Type 1} → statement M
 put-ticks-spec =

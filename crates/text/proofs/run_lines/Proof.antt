@@ -2,7 +2,7 @@
 -- Assumes nothing.
 use native.Mathlib.Omega.{arith}
 use borrow.Author.Needs.{needs}
-use Rattle.schedule.specs.Bounded.{rows}
+use Rattle.schedule.specs.Bounded.{chain}
 use Rattle.schedule.specs.Numbers.{runNumbers}
 use Rattle.text.specs.Said.{runName, line}
 use Rattle.text.specs.Appended.{tickText}
@@ -35,7 +35,7 @@ returns c =
     let h = c .before .before .before .before .before .ticks in
     let said = c .before .before .before .before .run-said in
     let e = run-parts (runNumbers (x .answer)) (x .plan .now) (h .ensures .0) (said .ensures) in
-    printed-nothing (rows (h .result) (tickText (x .plan .now))) (line runName (said .result)) (x .out .now) e
+    printed-nothing (chain (h .result) (tickText (x .plan .now))) (line runName (said .result)) (x .out .now) e
     (omega (arith, length-ticks (x .plan .now) (h .result)))
 
 put-ticks-requires : tie.Need-put-ticks-requires

@@ -2,7 +2,7 @@
 use native.Mathlib.Omega.{arith}
 use borrow.Author.Needs.{needs}
 use Rattle.records.specs.Reads.{passNumbers}
-use Rattle.view.proofs.GridLaws.{held-from-le, held-part}
+use Rattle.view.proofs.HeldLaws.{held-from-le, held-part}
 use Rattle.view.proofs.held.Statement.{statement}
 use Rattle.view.proofs.held.Tie as tie
 

@@ -50,7 +50,7 @@ use Rattle.records.proofs.Pass as P
 use Rattle.records.proofs.Pass.Laws as P′
 use Rattle.view.specs.Grid.{heldBytes}
 use Rattle.view.specs.declared.View.{View}
-use Rattle.view.proofs.GridLaws.{held-grid}
+use Rattle.view.proofs.HeldLaws.{held-grid}
 use Rattle.view.proofs.View as T
 use Rattle.view.proofs.View.Laws as T′
 use Rattle.view.proofs.refusal as refusal

@@ -48,7 +48,7 @@ use Rattle.schedule.proofs.WordAt.Laws as S′
 use Rattle.records.specs.Reads.{passNumbers}
 use Rattle.view.specs.Grid.{viewBytes, gridWord}
 use Rattle.view.specs.declared.View.{View}
-use Rattle.view.proofs.GridLaws.{grid-gives}
+use Rattle.view.proofs.HeldLaws.{grid-gives}
 use Rattle.view.proofs.View as T
 use Rattle.view.proofs.View.Laws as T′
 use Rattle.view.proofs.over as over

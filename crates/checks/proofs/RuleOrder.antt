@@ -20,7 +20,7 @@ use Rattle.records.specs.Reads.{passNumbers}
 use Rattle.checks.specs.declared.activity.ActivityRule.{ActivityRule}
 use Rattle.checks.specs.declared.activity.Following.{Following}
 use Rattle.checks.specs.declared.tick.TickRule.{TickRule}
-use Rattle.checks.specs.Tables.{Holds, HoldsOnly, after, finishOf, fromOf, outranksFrom, rankMask, loadRule, rankRule, Ranked, Tabled, Timed}
+use Rattle.checks.specs.Tables.{TableOf, TableOnly, after, finishOf, fromOf, outranksFrom, rankMask, loadRule, rankRule, Ranked, Tabled, Timed}
 use Rattle.checks.specs.Rules.{activityName, activityRule, activityOrder, activityRules, behind, firstOf, untried, untriedRules}
 use Rattle.checks.specs.Rules.{twoRules, tickRules, gridRules}
 use Rattle.checks.proofs.EfeTable.{from-after}
@@ -106,9 +106,9 @@ module _ (m : Model) (p : Plan) where
       (list-goes-on t (twoRules false m p) (twoRules true m p) (passNumbers u) told e h)
 
   -- the tables of ticks
-  pub timed : (counts finishes ends froms priorities : List ℕ) → m .activities ≤ 32 → Holds m counts (countOf m p)
-      → Holds m finishes (finishOf m p) → Holds m ends (p .end) → Holds m froms (fromOf m finishes counts ends)
-      → Holds m priorities (priorityOf m) → Timed m p froms ends priorities
+  pub timed : (counts finishes ends froms priorities : List ℕ) → m .activities ≤ 32 → TableOf m counts (countOf m p)
+      → TableOf m finishes (finishOf m p) → TableOf m ends (p .end) → TableOf m froms (fromOf m finishes counts ends)
+      → TableOf m priorities (priorityOf m) → Timed m p froms ends priorities
   unfolding after
   timed counts finishes ends froms priorities few hc hf he h hp = record {
     few = few;
@@ -133,14 +133,14 @@ module _ (m : Model) (p : Plan) where
   load-ranks true masks = tt
   load-ranks false masks = tt
 
-  pub rank-ranks : (strict : Bool) (masks : List ℕ) → HoldsOnly (m .activities) masks (rankMask m strict)
+  pub rank-ranks : (strict : Bool) (masks : List ℕ) → TableOnly (m .activities) masks (rankMask m strict)
       → Ranked (rankRule strict) m masks
   rank-ranks true masks h = h
   rank-ranks false masks h = h
 
   -- the masks by rank, from the priorities
-  pub ranked : (level : Bool) (n : ℕ) (priorities masks : List ℕ) → n ≡ m .activities → Holds m priorities (priorityOf m)
-      → HoldsOnly n masks (λ a. wordOf n (outranksFrom priorities level a)) → HoldsOnly (m .activities) masks (rankMask m level)
+  pub ranked : (level : Bool) (n : ℕ) (priorities masks : List ℕ) → n ≡ m .activities → TableOf m priorities (priorityOf m)
+      → TableOnly n masks (λ a. wordOf n (outranksFrom priorities level a)) → TableOnly (m .activities) masks (rankMask m level)
   unfolding rankMask
   ranked level n priorities masks e h held = record {
     below = λ a l.
