@@ -69,7 +69,7 @@ pub length-pair : (x y : ℕ) → length (pair x y) ≡ 4
 length-pair x y = simp (length-append, length-bytes)
 
 pub length-pairs : (n : ℕ) (f g : ℕ → ℕ) → length (pairRows n f g) ≡ 4 * n
-length-pairs n f g = length-rows 4 n (λ j. pair (f j) (g j)) (λ j _. length-pair (f j) (g j))
+length-pairs n f g = length-chain 4 n (λ j. pair (f j) (g j)) (λ j _. length-pair (f j) (g j))
 
 pub length-planBytes : (p : Plan) → length (planBytes p) ≡ planLength (p .threads) (p .activities) (p .horizon)
 unfolding planBytes

@@ -6,10 +6,10 @@ use native.Mathlib.Omega.{arith}
 use mathlib.Core.List.{List, _++_, append-assoc}
 use mathlib.Core.Path.{_≡_, sym, ap, ap₂, _∙_}
 use lib.ListN.{length, length-append}
-use Rattle.schedule.specs.Bounded.{rows}
+use Rattle.schedule.specs.Bounded.{chain}
 use Rattle.schedule.specs.Fields.{bytes, pair, pairRow}
 use Rattle.schedule.specs.Plan.{planLength, tickAt, ticksIn, pairRows}
-use Rattle.laws.proofs.FieldLaws.{length-bytes, rows-ext}
+use Rattle.laws.proofs.FieldLaws.{length-bytes, chain-ext}
 use Rattle.laws.proofs.PlanBytes.{length-pair, length-pairs}
 use Rattle.fields.specs.Put.{put}
 use Rattle.fields.proofs.PutLaws.{put-nil, put-out, put-after}
@@ -86,12 +86,12 @@ head-says n m h len l l₁ l₂ l₃ l₄ l₅ room el p₁ p₂ p₃ p₄ p₅ 
 -- ---- rows, one behind the other: for a loop that writes them
 
 pub pairs-start : (at : ℕ) (f g : ℕ → ℕ) (l : List ℕ) → l ≡ put at (pairRows 0 f g) l
-unfolding rows
+unfolding chain
 pairs-start at f g l = sym (put-nil at l)
 
 pub pairs-next : (at j x y : ℕ) (f g : ℕ → ℕ) (l l₁ l₂ : List ℕ) → pairRow at j + 4 ≤ length l → x ≡ f j → y ≡ g j
     → l₁ ≡ put at (pairRows j f g) l → l₂ ≡ put (pairRow at j) (pair x y) l₁ → l₂ ≡ put at (pairRows (j + 1) f g) l
-unfolding rows
+unfolding chain
 pairs-next at j x y f g l l₁ l₂ h ex ey p q =
     put-after at (pairRow at j) (pairRows j f g) (pair (f j) (g j)) l l₁ l₂ (omega (arith, length-pairs j f g))
     (omega (arith, length-pair (f j) (g j))) p (q ∙ ap₂ (λ (x y : ℕ). put (pairRow at j) (pair x y) l₁) ex ey)
@@ -99,7 +99,7 @@ pairs-next at j x y f g l l₁ l₂ h ex ey p q =
 
 pub pairs-ext : (n : ℕ) (f g f′ g′ : ℕ → ℕ) → ((j : ℕ) → j < n → f j ≡ f′ j) → ((j : ℕ) → j < n → g j ≡ g′ j)
     → pairRows n f g ≡ pairRows n f′ g′
-pairs-ext n f g f′ g′ h k = rows-ext n _ _ (λ j l. ap₂ pair (h j l) (k j l))
+pairs-ext n f g f′ g′ h k = chain-ext n _ _ (λ j l. ap₂ pair (h j l) (k j l))
 
 -- ---- a grid's word
 

@@ -74,7 +74,7 @@ plan s =
 
 -- n rows of two fields: release and period by thread, start and end by activity
 abbrev pub pairRows : ℕ → (ℕ → ℕ) → (ℕ → ℕ) → List ℕ
-pairRows n f g = rows n (λ j. pair (f j) (g j))
+pairRows n f g = chain n (λ j. pair (f j) (g j))
 
 -- a plan's bytes, written from its parts
 unfoldable pub planBytes : Plan → List ℕ
