@@ -25,7 +25,7 @@ use Rattle.schedule.specs.Model.{
   modelForm,
 }
 use Rattle.schedule.specs.Choice.{Choice, choice, choiceCounts, rangeRule, durationRule, choiceForm}
-use Rattle.schedule.specs.Checks.{deadlineRule}
+use Rattle.schedule.specs.Timing.{deadlineRule}
 use Rattle.schedule.specs.Answers.{
   Answer,
   refused,

@@ -8,7 +8,7 @@ use mathlib.Core.Path.{_≡_, sym, ap, ap₂, _∙_}
 use lib.ListN.{length, length-append}
 use Rattle.schedule.specs.Bounded.{chain}
 use Rattle.schedule.specs.Fields.{bytes, pair, pairRow}
-use Rattle.schedule.specs.Plan.{planLength, tickAt, ticksIn, pairRows}
+use Rattle.schedule.specs.Plan.{planLength, tickAt, pairRows}
 use Rattle.laws.proofs.FieldLaws.{length-bytes, chain-ext}
 use Rattle.laws.proofs.PlanBytes.{length-pair, length-pairs}
 use Rattle.fields.specs.Put.{put}
@@ -104,5 +104,5 @@ pairs-ext n f g f′ g′ h k = chain-ext n _ _ (λ j l. ap₂ pair (h j l) (k j
 -- ---- a grid's word
 
 -- a tick with no whole word in the grid
-pub word-out : (t w : ℕ) (g : List ℕ) → ticksIn g ≤ t → g ≡ put (tickAt t) (bytes 4 w) g
+pub word-out : (t w : ℕ) (g : List ℕ) → length g < tickAt t + 4 → g ≡ put (tickAt t) (bytes 4 w) g
 word-out t w g h = sym (put-out (tickAt t) (bytes 4 w) g (omega (arith, length-bytes 4 w)))

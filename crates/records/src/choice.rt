@@ -12,24 +12,34 @@ use schedule::Refusal;
 ghost use mathlib.Core.Path.{_≡_};
 ghost use Rattle.schedule.specs.Rule.{break, firstBreak};
 ghost use Rattle.schedule.specs.Model.{model};
-ghost use Rattle.schedule.specs.Choice.{choice, choiceForm, choiceLength, durationRule};
+ghost use Rattle.schedule.specs.Choice.{choice, choiceForm, choiceLength, durationAt, durationRule};
 ghost use Rattle.schedule.specs.Answers.{answer};
 ghost use Rattle.records.specs.Rows.{sizesOf, timing};
 ghost use Rattle.records.specs.Reads.{rowAnswer, refusalOf, passNumbers, headReadNumbers, choiceHead};
 ghost use Rattle.records.specs.Reads.{durationReadNumbers, choiceReadNumbers};
 
+// Where the thread rows begin, behind the counts.
+const ROWS: u8 = 7;
+
 // The row of an activity's thread in a choice, of any bytes.
 pub fn thread_row(q: &[u8], j: Thread) -> Timing
     ensures { λ r. ⌜ r ≡ timing (choice (now (q .entry)) .release (j .0)) (choice (now (q .entry)) .period (j .0)) ⌝ }
 {
-    timings::row(q, 7, j.number())
+    timings::row(q, ROWS, j.number())
 }
 
 // Thread row j of a choice, of any bytes, for a walk over all: release and period, and no priority.
 pub fn timing_at(q: &[u8], j: u8) -> Timing
     ensures { λ r. ⌜ r ≡ timing (choice (now (q .entry)) .release j) (choice (now (q .entry)) .period j) ⌝ }
 {
-    timings::row(q, 7, j)
+    timings::row(q, ROWS, j)
+}
+
+// Where activity a's duration stands, behind the rows of that many threads.
+fn duration_at(threads: u8, a: u8) -> usize
+    ensures { λ r. ⌜ r ≡ durationAt threads a ⌝ }
+{
+    timings::row_at(ROWS, threads) + 2 * (a as usize)
 }
 
 // Activity a's duration, of any bytes.
@@ -38,16 +48,16 @@ pub fn duration(q: &[u8], a: Activity) -> u16
 {
     let number = a.0;
     let threads = fields::byte(q, 5);
-    fields::be16(q, 7 + 4 * (threads as usize) + 2 * (number as usize))
+    fields::be16(q, duration_at(threads, number))
 }
 
 // ---- rules 8 to 11
 
-// "Length 7 + 4n + 2m"
+// "Length 7 + 4n + 2m": where one more duration would stand.
 fn formula(q: &[u8]) -> u32
     ensures { λ r. ⌜ r ≡ choiceLength (choice (now (q .entry)) .threads) (choice (now (q .entry)) .activities) ⌝ }
 {
-    7 + 4 * (fields::byte(q, 5) as u32) + 2 * (fields::byte(q, 6) as u32)
+    duration_at(fields::byte(q, 5), fields::byte(q, 6)) as u32
 }
 
 // Rules 8 to 11, "in list order".
@@ -138,7 +148,7 @@ fn rules(s: &[u8], q: &[u8]) -> Pass
     let HeadRead::Head(sizes) = first else {
         return first.pass();
     };
-    let timings = timings::read_timings(s, q, 7, sizes.threads);
+    let timings = timings::read_timings(s, q, ROWS, sizes.threads);
     if let Pass::Refused(_) = timings {
         return timings;
     }

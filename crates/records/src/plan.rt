@@ -45,11 +45,14 @@ pub struct Span {
 
 // ---- where the parts stand
 
+// The thread rows, behind the counts.
+const ROWS: u8 = 9;
+
 // Activity row a, behind the rows of that many threads.
 fn activity_at(threads: u8, a: u8) -> usize
     ensures { λ x. ⌜ x ≡ planActivityRow threads a ⌝ }
 {
-    timings::row_at(9, threads) + 4 * (a as usize)
+    timings::row_at(ROWS, threads) + 4 * (a as usize)
 }
 
 // The grid, behind the rows.
@@ -83,14 +86,14 @@ pub fn counts(r: &[u8]) -> PlanSizes
 pub fn thread_row(r: &[u8], j: Thread) -> Timing
     ensures { λ x. ⌜ x ≡ timing (plan (now (r .entry)) .release (j .0)) (plan (now (r .entry)) .period (j .0)) ⌝ }
 {
-    timings::row(r, 9, j.number())
+    timings::row(r, ROWS, j.number())
 }
 
 // Thread row j of a plan, of any bytes, for a walk over all: release and period, and no priority.
 pub fn timing_at(r: &[u8], j: u8) -> Timing
     ensures { λ x. ⌜ x ≡ timing (plan (now (r .entry)) .release j) (plan (now (r .entry)) .period j) ⌝ }
 {
-    timings::row(r, 9, j)
+    timings::row(r, ROWS, j)
 }
 
 // Activity row a of a plan, of any bytes.
@@ -126,6 +129,7 @@ fn fill_pair(out: &mut [u8], at: usize, first: u16, second: u16)
     fields::put16(out, at + 2, second);
 }
 
+// The same, or nothing where there is no room.
 fn put_pair(out: &mut [u8], at: usize, first: u16, second: u16)
     requires { ⌜ at < 65536 ⌝ }
     ensures { λ _. ⌜ now (out .exit) ≡ put at (pair first second) (now (out .entry)) ⌝ }
@@ -147,6 +151,7 @@ fn fill_head(out: &mut [u8], threads: u8, activities: u8, horizon: u16)
     fields::put16(out, 7, horizon);
 }
 
+// The same, or nothing where there is no room.
 pub fn put_head(out: &mut [u8], threads: u8, activities: u8, horizon: u16)
     ensures { λ _. ⌜ now (out .exit) ≡ put 0 (headBytes threads activities horizon) (now (out .entry)) ⌝ }
 {
@@ -159,7 +164,7 @@ pub fn put_head(out: &mut [u8], threads: u8, activities: u8, horizon: u16)
 pub fn put_thread_row(out: &mut [u8], j: u8, row: Timing)
     ensures { λ _. ⌜ now (out .exit) ≡ put (planThreadRow j) (pair (row .release) (row .period)) (now (out .entry)) ⌝ }
 {
-    put_pair(out, timings::row_at(9, j), row.release, row.period);
+    put_pair(out, timings::row_at(ROWS, j), row.release, row.period);
 }
 
 // Activity row a, behind the rows of that many threads: "start, end (2 each)".
@@ -277,7 +282,7 @@ fn rules(s: &[u8], r: &[u8]) -> Pass
     let HeadRead::Head(sizes) = first else {
         return first.pass();
     };
-    let timings = timings::read_timings(s, r, 9, sizes.threads);
+    let timings = timings::read_timings(s, r, ROWS, sizes.threads);
     if let Pass::Refused(_) = timings {
         return timings;
     }

@@ -8,41 +8,19 @@ use Rattle.records.proofs.choice.formula.Tie as tie
 byte-requires : tie.Need-byte-requires
 byte-requires c κs = search needs
 
-cast-result : tie.Need-cast-result
-cast-result c = search needs
-
-mul-result : tie.Need-mul-result
-mul-result c = search needs
-
-add-result : tie.Need-add-result
-add-result c = search needs
-
 byte-requires-2 : tie.Need-byte-requires-2
 byte-requires-2 c κs = search needs
 
-cast-result-2 : tie.Need-cast-result-2
-cast-result-2 c = search needs
+duration-at-requires : tie.Need-duration-at-requires
+duration-at-requires c κs = search needs
 
-mul-result-2 : tie.Need-mul-result-2
-mul-result-2 c = search needs
-
-add-result-2 : tie.Need-add-result-2
-add-result-2 c = search needs
+cast-result : tie.Need-cast-result
+cast-result c = search needs
 
 returns : tie.Need-returns
 unfolding choice
-returns c = rw (← c .before .byte .ensures, ← c .byte2 .ensures)
+returns c = rw (← c .before .before .byte .ensures, ← c .before .byte2 .ensures, ← c .duration-at .ensures)
 
 pub formula-spec : {M : Type 1} → statement M
 formula-spec =
-    tie.close
-    (tie.spec
-    byte-requires
-    cast-result
-    mul-result
-    add-result
-    byte-requires-2
-    cast-result-2
-    mul-result-2
-    add-result-2
-    returns)
+    tie.close (tie.spec byte-requires byte-requires-2 duration-at-requires cast-result returns)

@@ -10,9 +10,6 @@ use borrow.Author.Needs.{needs}
 use Rattle.records.proofs.grid.put_word.Statement.{statement}
 use Rattle.records.proofs.grid.put_word.Tie as tie
 
-ticks-requires : tie.Need-ticks-requires
-ticks-requires c κs = search needs
-
 tick-at-requires : tie.Need-tick-at-requires
 tick-at-requires c κs = search needs
 
@@ -25,27 +22,14 @@ same-length c = search needs
 returns : tie.Need-returns
 returns c =
     let c3 = c .before .before .before in
-    let c9 = c3 .before .before .before .before .before .before in
-    let x = c9 .args in
+    let x = c3 .before .before .before .before .args in
     c .before .before .put32 .ensures
     ∙ ap (λ (i : ℕ). put i (bytes 4 (x .word)) (x .grid .now)) (c3 .tick-at .ensures)
 
-same-length-2 : tie.Need-same-length-2
-same-length-2 c = search needs
-
 returns-2 : tie.Need-returns-2
 returns-2 c =
-    let x = c .before .before .before .before .args in
-    word-out (x .t) (x .word) (x .grid .now) (omega (arith, c .before .ticks .ensures, c .if1 .left))
+    let x = c .before .before .args in
+    word-out (x .t) (x .word) (x .grid .now) (omega (arith, c .if1 .left))
 
 pub put-word-spec : {M : Type 1} → statement M
-put-word-spec =
-    tie.close
-    (tie.spec
-    ticks-requires
-    tick-at-requires
-    put32-requires
-    same-length
-    returns
-    same-length-2
-    returns-2)
+put-word-spec = tie.close (tie.spec tick-at-requires put32-requires same-length returns returns-2)
