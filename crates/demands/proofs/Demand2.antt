@@ -173,8 +173,8 @@ keeps-named m p names k idle tie RuleRefusal.Data _ = k .by-data
 keeps-named m p names k idle tie RuleRefusal.Eligible _ = λ a _ l _. k .eligible a l
 keeps-named m p names k idle tie RuleRefusal.Cores _ = λ t _ l _. k .cores t l
 keeps-named m p names k idle tie RuleRefusal.Preemption _ = k .priority
-keeps-named m p names k idle tie RuleRefusal.Idle among = idle among
-keeps-named m p names k idle tie RuleRefusal.Tie among = tie among
+keeps-named m p names k idle tie RuleRefusal.Idle t = idle t
+keeps-named m p names k idle tie RuleRefusal.Tie t = tie t
 
 -- Rules 21 to 29 hold, as a list, exactly where the plan keeps them as crate schedule, Keeps, writes them out.
 pub plain-keeps : (m : Model) (p : Plan) → AllHold (plainRules m p) ↔ KeepsPlain m p
