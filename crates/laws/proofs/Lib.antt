@@ -6,6 +6,7 @@ pub mod Sums
 pub mod Steps
 pub mod Between
 pub mod FieldLaws
+pub mod Ranges
 pub mod Parts
 pub mod PlanBytes
 pub mod PlanForm
@@ -16,6 +17,7 @@ pub mod VerdictLaws
 pub mod RuleNumbers
 pub mod Selection
 pub mod MachineLaws
+pub mod MachinePlan
 pub mod EfeLaws
 pub mod Unique
 pub mod Exists

@@ -18,7 +18,7 @@ use Rattle.laws.proofs.Tests.{tests, below-suc}
 use Rattle.laws.proofs.Counting.{decT, T-true, T-false, weight, one-if, zero-if, count-suc, count-zero}
 use Rattle.laws.proofs.Words.{bit-wordOf, wordOf-lt}
 
-length-table : (n : ℕ) (f : ℕ → ℕ) → length (table n f) ≡ n
+pub length-table : (n : ℕ) (f : ℕ → ℕ) → length (table n f) ≡ n
 unfolding table
 length-table zero f = refl
 length-table (suc n) f = length-append (table n f) (f n ∷ []) ∙ ap (λ (k : ℕ). k + 1) (length-table n f) ∙ add-one n

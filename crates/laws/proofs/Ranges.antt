@@ -1,0 +1,43 @@
+-- The fields of the records fit their bytes.
+-- Assumes nothing.
+use Prim.Native.Nat.{ℕ, _<_}
+use mathlib.Core.List.{List}
+use Rattle.schedule.specs.Fields.{Bytes}
+use Rattle.schedule.specs.Model.{model}
+use Rattle.schedule.specs.Choice.{choice}
+use Rattle.schedule.specs.Plan.{plan}
+use Rattle.laws.proofs.FieldLaws.{field-lt}
+
+-- of a model
+module _ (s : List ℕ) (h : Bytes s) where
+  pub cores-lt : model s .cores < 256
+  unfolding model
+  cores-lt = field-lt s h 5 1
+
+  pub horizon-lt : model s .horizon < 65536
+  unfolding model
+  horizon-lt = field-lt s h _ 2
+
+  pub delay-lt : (a : ℕ) → model s .delay a < 65536
+  unfolding model
+  delay-lt a = field-lt s h _ 2
+
+-- of a choice
+module _ (q : List ℕ) (h : Bytes q) where
+  pub chosen-release-lt : (j : ℕ) → choice q .release j < 65536
+  unfolding choice
+  chosen-release-lt j = field-lt q h _ 2
+
+  pub chosen-period-lt : (j : ℕ) → choice q .period j < 65536
+  unfolding choice
+  chosen-period-lt j = field-lt q h _ 2
+
+-- of a plan
+module _ (r : List ℕ) (h : Bytes r) where
+  pub release-lt : (j : ℕ) → plan r .release j < 65536
+  unfolding plan
+  release-lt j = field-lt r h _ 2
+
+  pub end-lt : (a : ℕ) → plan r .end a < 65536
+  unfolding plan
+  end-lt a = field-lt r h _ 2

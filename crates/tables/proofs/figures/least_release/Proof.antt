@@ -1,0 +1,67 @@
+-- `tables::figures::least_release` meets its contract: the least release of the threads passed. Assumes nothing.
+use Prim.Native.Nat.{_≤_, _-_, min}
+use native.Mathlib.Omega.{arith}
+use mathlib.Core.Path.{_≡_, sym, ap, ap₂, _∙_}
+use Rattle.schedule.specs.Bounded.{least}
+use Rattle.schedule.specs.Plan.{plan}
+use Rattle.laws.proofs.Steps.{least-next, least-start, least-none}
+use borrow.Author.Needs.{needs}
+use Rattle.tables.proofs.figures.least_release.Statement.{statement}
+use Rattle.tables.proofs.figures.least_release.Tie as tie
+
+abbrev Inv-loop : tie.InvT-loop
+Inv-loop r n first₀ j₀ first j = (1 ≤ j) × (j ≤ n) × (first ≡ least j (plan r .release))
+
+abbrev μ-loop : tie.MeasureT-loop
+μ-loop r n first₀ j₀ first j = n - j
+
+returns : tie.Need-returns Inv-loop μ-loop
+returns c = sym (least-none (plan (c .before .before .args .r .now) .release)) ∙ ap (λ k. least k (plan (c .before .before .args .r .now) .release)) (sym (c .if1 .taken))
+
+release-of-requires : tie.Need-release-of-requires Inv-loop μ-loop
+release-of-requires c κs = search needs
+
+loop-holds : tie.Need-loop-holds Inv-loop μ-loop
+loop-holds c = (omega arith, omega arith, c .release-of .ensures ∙ sym (least-start (plan (c .before .before .before .args .r .now) .release)))
+
+release-of-requires-2 : tie.Need-release-of-requires-2 Inv-loop μ-loop
+release-of-requires-2 c κs = search needs
+
+smaller-requires : tie.Need-smaller-requires Inv-loop μ-loop
+smaller-requires c κs = search needs
+
+add-j : tie.Need-add-j Inv-loop μ-loop
+add-j c = omega arith
+
+loop-less : tie.Need-loop-less Inv-loop μ-loop
+loop-less c = omega arith
+
+loop-again : tie.Need-loop-again Inv-loop μ-loop
+loop-again c =
+    let l = c .before .before .before .loop in (
+      omega arith,
+      omega arith,
+      c .smaller .ensures ∙ ap₂ min (l .inv .2) (c .before .release-of2 .ensures) ∙ sym (least-next (l .j) (plan (c .before .before .before .before .before .before .before .args .r .now) .release) (l .inv .0)),
+    )
+
+returns-2 : tie.Need-returns-2 Inv-loop μ-loop
+returns-2 c =
+    let x = c .before .before .before .before .before .args in
+    let whole : c .before .loop .j ≡ x .n = omega arith in
+    c .before .loop .inv .2 ∙ ap (λ k. least k (plan (x .r .now) .release)) whole
+
+pub least-release-spec : {M : Type 1} → statement M
+least-release-spec =
+    tie.close
+    (tie.spec
+    Inv-loop
+    μ-loop
+    returns
+    release-of-requires
+    loop-holds
+    release-of-requires-2
+    smaller-requires
+    add-j
+    loop-less
+    loop-again
+    returns-2)

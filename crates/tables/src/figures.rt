@@ -1,0 +1,85 @@
+// "A pass answers usage (all ones), c times H, makespan".
+use numbers::larger;
+use numbers::less;
+use numbers::smaller;
+use records::model::Activity;
+use schedule::Figures;
+ghost use mathlib.Core.Path.{_≡_};
+ghost use Rattle.schedule.specs.Bounded.{ones, total, greatest, least};
+ghost use Rattle.schedule.specs.Model.{model};
+ghost use Rattle.schedule.specs.Plan.{plan};
+ghost use Rattle.schedule.specs.Answers.{figures};
+ghost use Rattle.schedule.specs.Numbers.{figureNumbers};
+
+// All ones, counted from the words.
+fn usage(r: &[u8], horizon: u16) -> u32
+    ensures { λ x. ⌜ x ≡ total horizon (λ t. ones (plan (now (r .entry)) .word t)) ⌝ }
+{
+    let mut sum: u32 = 0;
+    let mut t: u16 = 0;
+    while t < horizon {
+        sum += bits::ones(records::plan::word(r, t));
+        t += 1;
+    }
+    sum
+}
+
+// The end of activity a.
+fn end_of(r: &[u8], a: Activity) -> u32
+    ensures { λ x. ⌜ x ≡ plan (now (r .entry)) .end (a .0) ⌝ }
+{
+    let row = records::plan::activity_row(r, a);
+    row.end as u32
+}
+
+// The greatest end.
+fn latest_end(r: &[u8], n: u8) -> u32
+    ensures { λ x. ⌜ x ≡ greatest n (plan (now (r .entry)) .end) ⌝ }
+{
+    let mut latest: u32 = 0;
+    let mut a: u8 = 0;
+    while a < n {
+        latest = larger(latest, end_of(r, Activity(a)));
+        a += 1;
+    }
+    latest
+}
+
+// The release of thread j.
+fn release_of(r: &[u8], j: u8) -> u32
+    ensures { λ x. ⌜ x ≡ plan (now (r .entry)) .release j ⌝ }
+{
+    let row = records::plan::timing_at(r, j);
+    row.release as u32
+}
+
+// The least release over all threads, those without activities too.
+fn least_release(r: &[u8], n: u8) -> u32
+    ensures { λ x. ⌜ x ≡ least n (plan (now (r .entry)) .release) ⌝ }
+{
+    if n == 0 {
+        return 0;
+    }
+    let mut first = release_of(r, 0);
+    let mut j: u8 = 1;
+    while j < n {
+        first = smaller(first, release_of(r, j));
+        j += 1;
+    }
+    first
+}
+
+// The figures of a plan beside a model.
+pub fn figures(s: &[u8], r: &[u8]) -> Figures
+    ensures { λ x. ⌜ figureNumbers x ≡ figures (model (now (s .entry))) (plan (now (r .entry))) ⌝ }
+{
+    let sizes = records::model::counts(s);
+    Figures {
+        usage: usage(r, sizes.horizon),
+        capacity: (sizes.cores as u32) * (sizes.horizon as u32),
+        makespan: less(
+            latest_end(r, sizes.activities),
+            least_release(r, sizes.threads),
+        ),
+    }
+}

@@ -1,0 +1,6 @@
+// What the records say, by activity: tables of 32 numbers and words of 32 bits, and the figures of a plan. The checks and
+// the run look things up here; every call takes the records' bytes, whatever they are, and says all of its table.
+pub mod columns;
+pub mod counts;
+pub mod figures;
+pub mod ranking;
