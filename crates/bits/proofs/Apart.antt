@@ -1,7 +1,7 @@
 -- A word taken apart bit by bit, the lowest first: what a loop knows that clears the lowest bit of the rest.
 -- Assumes nothing.
 use Prim.Native.Nat.{ℕ, _-_, _^_, _<_}
-use native.Mathlib.Decide.{decLt}
+use native.Mathlib.Decide.{decLt, ℕ-discrete}
 use native.Mathlib.Omega.{arith}
 use mathlib.Core.Bool.{Bool, true, false, _&&_, not}
 use mathlib.Core.Path.{_≡_, refl, sym, subst, ap, _∙_}
@@ -44,3 +44,16 @@ module _ (rest a : ℕ) (fits : rest < 2 ^ 32) (more : ¬ (rest ≡ 0)) (low : a
       whole : (t : Bool) → (t && true) ≡ t
       whole true = refl
       whole false = refl
+
+  -- the rest of a word stays within it
+  pub still-within : (word : ℕ) → ((i : ℕ) → i < 32 → T (bit rest i) → T (bit word i))
+      → (i : ℕ) → i < 32 → T (bit (withoutBit rest a) i) → T (bit word i)
+  still-within word h i l x = elim (ℕ-discrete i a) [
+    | yes e ↦ absurd (subst T gone (subst (λ (j : ℕ). T (bit (withoutBit rest a) j)) e x))
+    | no ne ↦ h i l (subst T (kept i l ne) x)
+  ]
+
+-- nothing has been taken from a word that is left whole
+pub none-taken : (b : Bool) → (b && not b) ≡ false
+none-taken true = refl
+none-taken false = refl

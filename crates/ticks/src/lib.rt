@@ -1,4 +1,5 @@
-// The paper's comparisons of ticks, made once for the checks and for the run.
+// The paper's comparisons of ticks, made once for the checks and for the run, and a word that is kept from one change to the
+// next.
 ghost use mathlib.Core.Path.{_≡_};
 ghost use mathlib.Core.Bool.{_&&_, cond};
 ghost use Prim.Native.Nat.{_+_};
@@ -29,4 +30,17 @@ pub fn sooner(next: u32, other: u32, t: u32) -> u32
         }
     }
     next
+}
+
+// A word, and the tick before which it stays.
+pub struct Kept {
+    pub word: u32,
+    pub until: u32,
+}
+
+// No word is known yet.
+pub fn unknown() -> Kept
+    ensures { λ r. ⌜ r ≡ record { word = 0; until = 0 } ⌝ }
+{
+    Kept { word: 0, until: 0 }
 }

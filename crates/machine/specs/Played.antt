@@ -1,0 +1,46 @@
+-- What is left when the machine has been played: what is owed and the ends by activity, and the words in a grid.
+-- Assumes nothing.
+use Prim.Native.Nat.{ℕ, min}
+use mathlib.Core.Bool.{Bool, cond}
+use mathlib.Core.List.{List}
+use mathlib.Core.Path.{_≡_}
+use lib.Dec.{leb}
+use lib.ListN.{length, replicate}
+use Rattle.schedule.specs.Bounded.{chain}
+use Rattle.schedule.specs.Fields.{bytes}
+use Rattle.schedule.specs.Model.{Model}
+use Rattle.schedule.specs.Choice.{Choice}
+use Rattle.schedule.specs.Plan.{ticksIn}
+use Rattle.schedule.specs.Machine.{machineWord, machineEnd, machineOwes}
+use Rattle.fields.specs.Put.{put}
+use Rattle.tables.specs.Columns.{byActivity}
+
+-- the machine's words of the first k ticks, 4 bytes each
+unfoldable pub gridBytes : Model → Choice → ℕ → List ℕ
+gridBytes m q k = chain k (λ t. bytes 4 (machineWord m (q .release) (q .duration) t))
+
+-- a word has bits for 32 activities: the machine of a model with more is not played
+abbrev pub playable : Model → Bool
+playable m = leb (m .activities) 32
+
+-- the ticks still owed by each activity, all 0 where the machine is not played
+unfoldable pub playedOwed : Model → Choice → List ℕ
+playedOwed m q = cond (playable m) (byActivity m (machineOwes m (q .release) (q .duration))) (replicate 32 0)
+
+-- the ends
+unfoldable pub playedEnds : Model → Choice → List ℕ
+playedEnds m q = cond (playable m) (byActivity m (machineEnd m (q .release) (q .duration))) (replicate 32 0)
+
+-- a grid with the words of the ticks for which it has room
+abbrev pub writtenGrid : Model → Choice → ℕ → List ℕ → List ℕ
+writtenGrid m q k grid = put 0 (gridBytes m q (min k (ticksIn grid))) grid
+
+-- the grid after the machine: all its words that fit, and the other bytes as they were
+unfoldable pub playedGrid : Model → Choice → List ℕ → List ℕ
+playedGrid m q grid = cond (playable m) (writtenGrid m q (m .horizon) grid) grid
+
+-- the machine has been played
+pub record Finished (m : Model) (q : Choice) (grid grid′ owed ends : List ℕ) : Type 0 where
+  pub written : grid′ ≡ writtenGrid m q (m .horizon) grid
+  pub owed-ticks : owed ≡ byActivity m (machineOwes m (q .release) (q .duration))
+  pub end-ticks : ends ≡ byActivity m (machineEnd m (q .release) (q .duration))

@@ -1,0 +1,74 @@
+// "The run, as a plain machine": it plays the machine of a model and a choice, with a page or without one.
+mod stretches;
+mod tick;
+
+use tables::columns::Column;
+use tables::ranking::Order;
+use tick::Tables;
+ghost use mathlib.Core.Path.{_≡_};
+ghost use Prim.Native.Nat.{_≤_};
+ghost use Rattle.schedule.specs.Model.{model};
+ghost use Rattle.schedule.specs.Choice.{choice};
+ghost use Rattle.machine.specs.Masks.{Tabled};
+ghost use Rattle.machine.specs.Played.{Finished, playedOwed, playedEnds, playedGrid};
+
+// What the machine leaves at H: the ticks still owed and the ends, by activity.
+pub struct Played {
+    pub owed: [u32; 32],
+    pub ends: [u32; 32],
+}
+
+// What the machine needs of a model and the chosen releases, by activity.
+fn tabulate(s: &[u8], q: &[u8]) -> Tables
+    requires { ⌜ model (now s) .activities ≤ 32 ⌝ }
+    ensures { λ r. ⌜ Tabled (model (now (s .entry))) (choice (now (q .entry)) .release) r ⌝ }
+{
+    let releases = tables::columns::table(Column::Release, s, q);
+    let delays = tables::columns::table(Column::Delay, s, q);
+    let temporal = tables::columns::table(Column::Temporal, s, q);
+    let by_data = tables::columns::table(Column::ByData, s, q);
+    let befores = tables::ranking::masks(Order::Before, s);
+    [releases, delays, temporal, by_data, befores]
+}
+
+// "At the beginning t = 0 and each activity owes its chosen duration. .. Then t grows by one; stop at H." The words of the
+// ticks for which the grid has room are written into it.
+fn play_ticks(s: &[u8], q: &[u8], tables: &Tables, grid: &mut [u8]) -> Played
+    requires { ⌜ Tabled (model (now s)) (choice (now q) .release) (now tables) ⌝ }
+    ensures { λ r. ⌜ Finished (model (now (s .entry))) (choice (now (q .entry))) (now (grid .entry)) (now (grid .exit))
+        (r .owed) (r .ends) ⌝ }
+{
+    let sizes = records::model::counts(s);
+    let n = sizes.activities as usize;
+    let cores = sizes.cores as u32;
+    let horizon = sizes.horizon as usize;
+    let mut owed = tables::columns::table(Column::Duration, s, q);
+    let mut ends = [0u32; 32];
+    let mut kept = ticks::unknown();
+    let mut t = 0;
+    while t < horizon {
+        kept = stretches::at(kept, n, cores, tables, &owed, &ends, t as u32);
+        tick::step(kept.word, t as u32, &mut owed, &mut ends);
+        records::grid::put_word(grid, t, kept.word);
+        t += 1;
+    }
+    Played { owed, ends }
+}
+
+// Plays the machine of a model and a choice of any bytes, into a grid of any length: an empty one where no page is wanted. A
+// model of more activities than a word has bits is not played; none that meets its form rules has so many.
+pub fn play(s: &[u8], q: &[u8], grid: &mut [u8]) -> Played
+    ensures { λ r. ⌜ (r .owed ≡ playedOwed (model (now (s .entry))) (choice (now (q .entry))))
+        × (r .ends ≡ playedEnds (model (now (s .entry))) (choice (now (q .entry))))
+        × (now (grid .exit) ≡ playedGrid (model (now (s .entry))) (choice (now (q .entry))) (now (grid .entry))) ⌝ }
+{
+    let sizes = records::model::counts(s);
+    if 32 < sizes.activities {
+        return Played {
+            owed: [0u32; 32],
+            ends: [0u32; 32],
+        };
+    }
+    let tables = tabulate(s, q);
+    play_ticks(s, q, &tables, grid)
+}
