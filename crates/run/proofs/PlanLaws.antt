@@ -1,22 +1,18 @@
 -- What stands in front of the grid, written piece by piece, and the words of the grid read back.
 -- Assumes nothing.
-use Prim.Native.Nat.{ℕ, _+_, _-_, _*_, _^_, _≤_, _<_}
-use native.Mathlib.Nat.{add-zero, lt-of-le-of-lt, mul-le-mul}
+use Prim.Native.Nat.{ℕ, _+_, _-_, _≤_, _<_}
+use native.Mathlib.Nat.{add-zero}
 use native.Mathlib.Numerals.{add-one}
 use native.Mathlib.Omega.{arith}
 use mathlib.Core.Bool.{Bool}
 use mathlib.Core.List.{List, [], _++_, append-assoc, append-nil}
 use mathlib.Core.Path.{_≡_, refl, sym, subst, ap, ap₂, _∙_}
 use lib.Dec.{T}
-use lib.ListN.{length, getD, take, drop, length-append, length-drop, drop-of-length-le}
+use lib.ListN.{length, take, drop, length-append, length-drop, drop-of-length-le}
 use lib.Seq.{take-all}
 use borrow.Rule.Slice.PartMut.{putMid, postOf}
-use Rattle.schedule.specs.Bounded.{lowest, bit, ones, greatest, least}
-use Rattle.schedule.specs.Model.{Model}
-use Rattle.schedule.specs.Choice.{Choice}
+use Rattle.schedule.specs.Bounded.{lowest, bit}
 use Rattle.schedule.specs.Plan.{planThreadRow, gridAt, wordIn, pairRows}
-use Rattle.schedule.specs.Answers.{Figures}
-use Rattle.laws.proofs.Steps.{total-start, total-next}
 use Rattle.laws.proofs.Tests.{up-to}
 use Rattle.laws.proofs.Lowest.{lowest-is, lowest-unique}
 use Rattle.laws.proofs.PlanBytes.{length-pairs}
@@ -25,7 +21,7 @@ use Rattle.fields.specs.Put.{put}
 use Rattle.fields.proofs.PutLaws.{put-after, put-part}
 use Rattle.records.specs.Writes.{headBytes}
 use Rattle.records.proofs.WriteLaws.{length-head, pairs-ext}
-use Rattle.run.specs.Front.{frontBytes, gridIn, startIn, usageIn, figuresIn}
+use Rattle.run.specs.Front.{frontBytes, startIn}
 
 -- ---- searching
 
@@ -81,34 +77,9 @@ front-says n m h release period start end start′ l l₁ l₂ l₃ room e p₁ 
     (p₃ ∙ ap (λ (b : List ℕ). put (planThreadRow n) b l₂) (pairs-ext m start′ end start end e (λ _ _. refl)))
     ∙ ap (λ (b : List ℕ). put 0 b l) (append-assoc (headBytes n m h) (pairRows n release period) (pairRows m start end))
 
--- ---- the usage, from one tick to the next, and the starts
-
-pub usage-start : (grid : List ℕ) → usageIn grid 0 ≡ 0
-unfolding usageIn
-usage-start grid = total-start (λ t. ones (wordIn grid t))
-
-pub usage-next : (grid : List ℕ) (t : ℕ) → usageIn grid t + ones (wordIn grid t) ≡ usageIn grid (t + 1)
-unfolding usageIn
-usage-next grid t = sym (total-next t (λ t. ones (wordIn grid t)))
+-- ---- the starts
 
 -- a start is no later than H
 pub start-le : (grid : List ℕ) (h a : ℕ) → startIn grid h a ≤ h
 unfolding startIn
 start-le grid h a = lowest-is h (λ t. bit (wordIn grid t) a) .bound
-
--- ---- the figures
-
--- a core count and a horizon multiply to a word
-pub capacity-lt : (x y : ℕ) → x < 256 → y < 65536 → x * y < 2 ^ 32
-capacity-lt x y hx hy = lt-of-le-of-lt (mul-le-mul (le-of-lt-succ x 255 hx) (le-of-lt-succ y 65535 hy)) (omega arith)
-  where
-    le-of-lt-succ : (a b : ℕ) → a < b + 1 → a ≤ b
-    le-of-lt-succ a b h = omega arith
-
-pub figures-says : (m : Model) (q : Choice) (out ends : List ℕ) (u c k : ℕ)
-    → u ≡ usageIn (gridIn m out) (m .horizon)
-    → c ≡ m .cores * m .horizon
-    → k ≡ greatest (m .activities) (λ a. getD ends a 0) - least (m .threads) (q .release)
-    → _≡_ {A = Figures} (record { usage = u; capacity = c; makespan = k }) (figuresIn m q out ends)
-unfolding figuresIn
-figures-says m q out ends u c k eu ec ek = λ i. record { usage = eu i; capacity = ec i; makespan = ek i }

@@ -1,7 +1,6 @@
 -- What the run answers and leaves: rules 42 and 43 from the tables, and the buffer from its pieces.
 -- Assumes nothing.
 use Prim.Native.Nat.{ℕ, zero, suc, _+_, _-_, _*_, _≤_, _<_}
-use native.Mathlib.Decide.{decLt}
 use native.Mathlib.Nat.{lt-of-lt-of-le}
 use native.Mathlib.Omega.{arith}
 use mathlib.Core.Bool.{Bool, true, false, _&&_, not, cond}
@@ -9,57 +8,49 @@ use mathlib.Core.List.{List, [], _++_, append-assoc}
 use mathlib.Core.Option.{Option, some, none}
 use mathlib.Core.Path.{_≡_, refl, sym, subst, ap, ap₂, _∙_}
 use lib.Dec.{T, eqb, ltb}
-use lib.ListN.{length, getD, drop, replicate, length-append}
+use lib.ListN.{length, getD, take, drop, replicate, length-append, length-drop}
+use borrow.Author.Tests.{le-leb}
+use borrow.Rule.Slice.PartMut.{putMid}
 use lib.Pow.{pow-mono}
-use Rattle.schedule.specs.Bounded.{lowest, bit, ones, least}
-use Rattle.schedule.specs.Fields.{Bytes}
+use Rattle.schedule.specs.Bounded.{lowest, bit}
 use Rattle.schedule.specs.Rule.{Rule, Refusal, break, firstBreak}
 use Rattle.schedule.specs.declared.Figures.{Figures as Shown}
 use Rattle.schedule.specs.declared.Refusal.{Refusal as Declared}
 use Rattle.schedule.specs.declared.RunVerdict.{RunVerdict}
-use Rattle.schedule.specs.declared.FormRefusal.{FormRefusal}
-use Rattle.schedule.specs.Numbers.{formNumber, refusalNumbers, figureNumbers, runNumbers}
-use Rattle.schedule.specs.Model.{
-  Model,
-  model,
-  lengthRule,
-  versionRule,
-  formulaRule,
-  limitsRule,
-  threadRule,
-  activityRule,
-  maskRule,
-  modelForm,
-}
+use Rattle.schedule.specs.Numbers.{refusalNumbers, figureNumbers, runNumbers}
+use Rattle.schedule.specs.Model.{Model, Formed, model, modelForm}
 use Rattle.schedule.specs.Choice.{Choice, choice, choiceTiming, choiceForm}
-use Rattle.schedule.specs.Plan.{planBytes, pairRows, tickAt, wordIn}
-use Rattle.schedule.specs.Machine.{owes, endOf, initial, stateAt, machineWord, machineStart, machineEnd}
+use Rattle.schedule.specs.Plan.{plan, planBytes, pairRows, tickAt, wordIn}
+use Rattle.schedule.specs.Machine.{machineWord, machineStart, machineEnd, machineOwes}
 use Rattle.schedule.specs.Timing.{onTime, inTime, deadlineRule}
 use Rattle.schedule.specs.Answers.{Answer, accepted, refused, answer, figures, Written, machinePlan, owedRule, runRules}
 use Rattle.schedule.specs.Answers.{lengthNeeded, written, runChecks, Outcome, from-run, succeeded, concluded, outcome}
 use Rattle.schedule.specs.Answers.{answerOf, runAnswer, bufferAfter, runBuffer}
 use Rattle.laws.proofs.Tests.{T-not, T-not-not}
 use Rattle.laws.proofs.Lowest.{Lowest, lowest-is}
-use Rattle.laws.proofs.FieldLaws.{length-bytes, field-lt, field-drop}
-use Rattle.laws.proofs.Parts.{Stands, stands-field, stands-row}
+use Rattle.laws.proofs.FieldLaws.{length-bytes, field-drop}
+use Rattle.laws.proofs.Parts.{Stands, stands-whole, stands-first, stands-field, stands-row}
 use Rattle.laws.proofs.RowLaws.{refusalAt, ClearTo, clear-end, clear-stop, row-clear, row-broken}
-use Rattle.laws.proofs.Sums.{total-ext, greatest-ext}
-use Rattle.laws.proofs.MachineLaws.{end-next, word-lt, getD-table}
-use Rattle.laws.proofs.PlanBytes.{length-pairs, length-planBytes}
+use Rattle.laws.proofs.Sums.{figures-ext}
+use Rattle.laws.proofs.MachineLaws.{word-lt}
+use Rattle.laws.proofs.MachinePlan.{end-le, machine-fits}
+use Rattle.laws.proofs.Formed.{model-says}
+use Rattle.laws.proofs.PlanBytes.{length-pairs, length-planBytes, reads-from}
 use Rattle.laws.proofs.VerdictLaws.{run-from-input, run-past-input, outcome-short, outcome-fits}
 use Rattle.laws.proofs.VerdictLaws.{concluded-refused, concluded-succeeded}
-use Rattle.laws.proofs.FirstBreak.{none-iff, append-none, append-some, rule-stops, rule-goes-on, says}
+use Rattle.laws.proofs.FirstBreak.{none-iff, append-none, append-some, rule-stops, rule-goes-on}
 use Rattle.laws.proofs.Sound.{modelForm-sound}
 use Rattle.fields.specs.Put.{put}
 use Rattle.fields.proofs.PutLaws.{put-at, put-back, put-front, put-twice, drop-put, length-put}
 use Rattle.records.specs.Writes.{headBytes}
 use Rattle.records.proofs.WriteLaws.{length-head, pairs-ext}
-use Rattle.run.specs.declared.tables.Column.{Column}
-use Rattle.run.specs.Tables.{entryOf, Filled}
-use Rattle.run.specs.Grid.{gridBytes, Runs, Finished}
-use Rattle.run.specs.Outcome.{Stopped, Standing, Answers}
-use Rattle.run.specs.Front.{frontBytes, frontIn, gridOf, gridIn, startIn, usageIn, figuresIn, inTimeFrom}
-use Rattle.run.proofs.GridLaws.{length-grid}
+use Rattle.tables.specs.Columns.{TableOf, byActivity}
+use Rattle.tables.proofs.TableLaws.{by-table}
+use Rattle.machine.specs.Played.{gridBytes, playedOwed, playedEnds, writtenGrid, playedGrid}
+use Rattle.machine.proofs.PlayLaws.{length-grid, grid-whole}
+use Rattle.run.specs.Outcome.{Stopped, Placed, Standing, Answers}
+use Rattle.run.specs.Front.{frontBytes, frontIn, gridOf, gridIn, startIn, inTimeFrom}
+use Rattle.run.proofs.PlanLaws.{rest-says, part-says}
 
 -- ---- a rule of one column, from the lowest row that breaks it
 
@@ -110,7 +101,7 @@ module _ (m : Model) (q : Choice) (owed ends : List ℕ) (stopped : Stopped m q 
       ∙ ap (λ (k : ℕ). lowest k (λ a. not (eqb (getD owed a 0) 0))) en
       ∙ lowest-ext (m .activities) _ _ (λ a l. ap (λ (x : ℕ). not (eqb x 0)) (stopped .owed-ticks a l)))
 
-  late-is : (i : ℕ) (periods : List ℕ) → Filled n (entryOf Column.Period m q) periods
+  late-is : (i : ℕ) (periods : List ℕ) → TableOf m periods (λ a. q .period (m .thread a))
       → i ≡ lowest n (λ a. not (inTimeFrom periods ends a)) → Lowest (deadline .rows) (λ a. not (deadline .test a 0)) i
   unfolding deadlineRule inTime inTimeFrom
   late-is i periods held e =
@@ -118,7 +109,7 @@ module _ (m : Model) (q : Choice) (owed ends : List ℕ) (stopped : Stopped m q 
       (e
       ∙ ap (λ (k : ℕ). lowest k (λ a. not (inTimeFrom periods ends a))) en
       ∙ lowest-ext (m .activities) _ _ (λ a l.
-      ap₂ (λ (period end : ℕ). not (onTime period period end)) (held .filled a (omega arith)) (stopped .end-ticks a l)))
+      ap₂ (λ (period end : ℕ). not (onTime period period end)) (held a l) (stopped .end-ticks a l)))
 
   pub owed-first : (i : ℕ) → i ≡ lowest n (λ a. not (eqb (getD owed a 0) 0)) → i < n
       → firstBreak (runRules m q) ≡ some (record { number = 42; A = i; B = 0 })
@@ -129,7 +120,7 @@ module _ (m : Model) (q : Choice) (owed ends : List ℕ) (stopped : Stopped m q 
   unfolding owedRule
   owed-none i e l = break-none-at (owedRule m q) refl i (owing-is i e) (omega arith)
 
-  module _ (i j : ℕ) (periods : List ℕ) (held : Filled n (entryOf Column.Period m q) periods)
+  module _ (i j : ℕ) (periods : List ℕ) (held : TableOf m periods (λ a. q .period (m .thread a)))
       (ei : i ≡ lowest n (λ a. not (eqb (getD owed a 0) 0))) (li : n ≤ i)
       (ej : j ≡ lowest n (λ a. not (inTimeFrom periods ends a))) where
     pub late-first : j < n → firstBreak (runRules m q) ≡ some (record { number = 43; A = j; B = 0 })
@@ -145,19 +136,7 @@ module _ (m : Model) (q : Choice) (owed ends : List ℕ) (stopped : Stopped m q 
         ∙ rule-goes-on deadline [] (break-none-at deadline refl j (late-is j periods held ej) (omega arith))
         ∙ none-left
 
--- an end is no later than the tick
-end-le : (m : Model) (release duration : ℕ → ℕ) (t a : ℕ) → a < m .activities → endOf (stateAt m release duration t) a ≤ t
-unfolding stateAt initial
-end-le m release duration zero a l = omega (arith, getD-table (m .activities) (λ _. 0) a l)
-end-le m release duration (suc t) a l =
-    subst (λ (x : ℕ). x ≤ suc t) (sym (end-next m release duration t a l))
-    (one (end-le m release duration t a l) (bit (machineWord m release duration t) a && eqb (owes (stateAt m release duration t) a) 1))
-  where
-    one : endOf (stateAt m release duration t) a ≤ t → (b : Bool) → cond b (t + 1) (endOf (stateAt m release duration t) a) ≤ suc t
-    one h true = omega arith
-    one h false = omega arith
-
--- ---- the words, starts, ends and figures of the buffer
+-- ---- the words, starts and ends of the buffer
 
 module _ (m : Model) (q : Choice) (out owed ends : List ℕ) (stands : Standing m q out owed ends) where
   fits : gridOf m + length (gridBytes m q (m .horizon)) ≤ length out
@@ -170,7 +149,7 @@ module _ (m : Model) (q : Choice) (out owed ends : List ℕ) (stands : Standing 
       field-drop (gridOf m) out (tickAt t) 4
       ∙ stands-field out (gridOf m + tickAt t) 4 (machineWord m (q .release) (q .duration) t)
       (stands-row out (gridOf m) 4 (m .horizon) _ (λ u _. length-bytes 4 (machineWord m (q .release) (q .duration) u)) whole t l)
-      (lt-of-lt-of-le (word-lt m (q .release) (q .duration) t) (pow-mono (stands .stopped .runs .few)))
+      (lt-of-lt-of-le (word-lt m (q .release) (q .duration) t) (pow-mono (stands .stopped .formed .activities .1)))
     where
       whole : Stands out (gridOf m) (gridBytes m q (m .horizon))
       whole i k =
@@ -179,14 +158,6 @@ module _ (m : Model) (q : Choice) (out owed ends : List ℕ) (stands : Standing 
   start-in : (a : ℕ) → startIn (gridIn m out) (m .horizon) a ≡ machineStart m (q .release) (q .duration) a
   unfolding startIn machineStart
   start-in a = lowest-ext (m .horizon) _ _ (λ t l. ap (λ (w : ℕ). bit w a) (word-in t l))
-
-  pub figures-are : figuresIn m q out ends ≡ figures m (machinePlan m q)
-  unfolding figuresIn usageIn figures machinePlan
-  figures-are =
-      let u = total-ext (m .horizon) (λ t. ones (wordIn (gridIn m out) t)) (λ t. ones (machineWord m (q .release) (q .duration) t))
-      (λ t l. ap ones (word-in t l)) in
-      let e = greatest-ext (m .activities) (λ a. getD ends a 0) (machineEnd m (q .release) (q .duration)) (stands .stopped .end-ticks) in
-      λ i. record { usage = u i; capacity = m .cores * m .horizon; makespan = e i - least (m .threads) (q .release) }
 
   -- the front and the grid are the plan
   front-plan : frontIn m q out ends ++ gridBytes m q (m .horizon) ≡ planBytes (machinePlan m q)
@@ -237,7 +208,7 @@ module _ (m : Model) (q : Choice) (out owed ends : List ℕ) (stands : Standing 
         arith,
         stands .stopped .end-ticks a l,
         end-le m (q .release) (q .duration) (m .horizon) a l,
-        stands .stopped .runs .short,
+        stands .stopped .formed .horizon .1,
       )
 
 -- ---- the grid that was placed
@@ -247,17 +218,42 @@ placed-fits : (m : Model) (q : Choice) (l : List ℕ) → lengthNeeded m ≤ len
 unfolding lengthNeeded
 placed-fits m q l h = omega (arith, length-grid m q (m .horizon))
 
+-- the machine played into the part behind the rows
+pub played-placed : (m : Model) (q : Choice) (at : ℕ) (out part owed ends : List ℕ) → Formed m
+    → gridOf m + tickAt (m .horizon) ≤ length out → at ≡ gridOf m
+    → (owed ≡ playedOwed m q) × (ends ≡ playedEnds m q) × (part ≡ playedGrid m q (take (length out - at) (drop at out)))
+    → Placed m q out (putMid at (length out - at) out part) owed ends
+unfolding playedOwed playedEnds playedGrid
+played-placed m q at out part owed ends formed room e h =
+    let few = formed .activities .1 in
+    let yes? = le-leb (m .activities) 32 few in
+    let behind : List ℕ = take (length out - at) (drop at out) in
+    let fits : tickAt (m .horizon) ≤ length behind =
+    omega (arith, e, room, ap length (rest-says at out), length-drop at out) in
+    record {
+      written = part-says at _ _ out part (omega arith) refl
+          (h .2 ∙ ap (λ (t : Bool). cond t (writtenGrid m q (m .horizon) behind) behind) yes? ∙ grid-whole m q behind fits)
+          ∙ ap (λ (k : ℕ). put k (gridBytes m q (m .horizon)) out) e;
+      stopped = record {
+        formed = formed;
+        owed-ticks = by-table m _ owed few
+            (h .0 ∙ ap (λ (t : Bool). cond t (byActivity m (machineOwes m (q .release) (q .duration))) (replicate 32 0)) yes?);
+        end-ticks = by-table m _ ends few
+            (h .1 ∙ ap (λ (t : Bool). cond t (byActivity m (machineEnd m (q .release) (q .duration))) (replicate 32 0)) yes?);
+      };
+    }
+
 -- it stands
-pub placed-stands : (m : Model) (q : Choice) (l out owed ends : List ℕ) → Runs m → lengthNeeded m ≤ length l
-    → Finished m q (gridOf m) l out owed ends → Standing m q out owed ends
-placed-stands m q l out owed ends runs room p =
+pub placed-stands : (m : Model) (q : Choice) (l out owed ends : List ℕ) → lengthNeeded m ≤ length l
+    → Placed m q l out owed ends → Standing m q out owed ends
+placed-stands m q l out owed ends room p =
     let e = placed-fits m q l room in
     record {
       room = omega (arith, ap length (p .written), length-put (gridOf m) (gridBytes m q (m .horizon)) l);
       grid = ap (put (gridOf m) (gridBytes m q (m .horizon))) (p .written)
           ∙ put-twice (gridOf m) (gridBytes m q (m .horizon)) l (omega arith)
           ∙ sym (p .written);
-      stopped = record { runs = runs; owed-ticks = p .owed-ticks; end-ticks = p .end-ticks };
+      stopped = p .stopped;
     }
 
 -- ---- the answers where there is room
@@ -284,19 +280,33 @@ refused-answers m q out out′ x e f =
       leaves = f ∙ sym (ap (λ (o : Outcome). bufferAfter o m q out) c);
     }
 
+-- the figures of the plan that stands in the buffer are those of the machine's plan
+figures-read : (m : Model) (q : Choice) (rest : List ℕ) → Formed m
+    → ((j : ℕ) → q .release j < 65536) → ((j : ℕ) → q .period j < 65536)
+    → figures m (plan (planBytes (machinePlan m q) ++ rest)) ≡ figures m (machinePlan m q)
+unfolding machinePlan
+figures-read m q rest formed release period =
+    let bytes : List ℕ = planBytes (machinePlan m q) in
+    let back = reads-from (machinePlan m q) (machine-fits m q formed release period) (bytes ++ rest)
+    (stands-first (bytes ++ rest) 0 bytes rest (stands-whole (bytes ++ rest))) in
+    figures-ext m (plan (bytes ++ rest)) (machinePlan m q) (back .word) (back .end) (back .release)
+
 pub accepted-answers : (m : Model) (q : Choice) (out out′ owed ends : List ℕ) (k : ℕ) (f : Shown)
+    → ((j : ℕ) → q .release j < 65536) → ((j : ℕ) → q .period j < 65536)
     → Standing m q out owed ends → firstBreak (runRules m q) ≡ none
-    → k ≡ lengthNeeded m → figureNumbers f ≡ figuresIn m q out ends → out′ ≡ put 0 (frontIn m q out ends) out
+    → k ≡ lengthNeeded m → out′ ≡ put 0 (frontIn m q out ends) out → figureNumbers f ≡ figures m (plan out′)
     → Answers (concluded m q) m q out out′ (RunVerdict.Accepted (record { length = k; figures = f }))
 unfolding answerOf bufferAfter
-accepted-answers m q out out′ owed ends k f stands e ek ef eo =
+accepted-answers m q out out′ owed ends k f release period stands e ek eo ef =
     let c = concluded-succeeded m q e in
-    let g = ef ∙ figures-are m q out owed ends stands in
+    let whole = eo ∙ plan-written m q out owed ends stands in
+    let g = ef ∙ ap (λ (l : List ℕ). figures m (plan l)) whole
+    ∙ figures-read m q (drop (lengthNeeded m) out) (stands .stopped .formed) release period in
     let both : _≡_ {A = Written} (record { length = k; figures = figureNumbers f }) (written m q) =
     λ i. record { length = ek i; figures = g i } in
     record {
       says = ap {B = Answer Written} accepted both ∙ sym (ap answerOf c);
-      leaves = eo ∙ plan-written m q out owed ends stands ∙ sym (ap (λ (o : Outcome). bufferAfter o m q out) c);
+      leaves = whole ∙ sym (ap (λ (o : Outcome). bufferAfter o m q out) c);
     }
 
 -- ---- 41, and the rest of the outcome
@@ -314,7 +324,7 @@ room-answers m q l x h e =
 
 -- with room, what was concluded of the buffer with the grid holds of the buffer as it was lent
 pub outcome-answers : (m : Model) (q : Choice) (l out out′ owed ends : List ℕ) (r : RunVerdict) → lengthNeeded m ≤ length l
-    → Finished m q (gridOf m) l out owed ends → Answers (concluded m q) m q out out′ r → Answers (outcome m q (length l)) m q l out′ r
+    → Placed m q l out owed ends → Answers (concluded m q) m q out out′ r → Answers (outcome m q (length l)) m q l out′ r
 outcome-answers m q l out out′ owed ends r h p a =
     let o = outcome-fits m q (length l) h in
     record {
@@ -379,20 +389,6 @@ module _ (s q : List ℕ) where
       let o = run-past-input s q (length l) e in
       (a .says ∙ sym (ap answerOf o), a .leaves ∙ sym (ap (λ (o : Outcome). bufferAfter o (model s) (choice q) l) o))
 
--- a model that meets its form runs
-pub form-runs : (s : List ℕ) → Bytes s → firstBreak (modelForm s) ≡ none → Runs (model s)
-unfolding modelForm lengthRule versionRule limitsRule formulaRule threadRule activityRule maskRule model
-form-runs s b e =
-    let h = none-iff (modelForm s) (modelForm-sound s) .0 e in
-    let limits = says (formNumber FormRefusal.ModelLimits) (modelForm s) h 0 0 (omega arith) (omega arith) in
-    let masks = says (formNumber FormRefusal.MaskRow) (modelForm s) h in
-    record {
-      threads = limits .0 .1;
-      few = limits .1 .0 .1;
-      short = limits .1 .1 .1;
-      masked = record {
-        narrow = λ a l. (field-lt s b _ 4, field-lt s b _ 4);
-        temporal = λ a b la lb x. elim (decLt b a) [ yes y ↦ y | no y ↦ absurd (masks a 0 la (omega arith) b lb (omega arith) .0 x) ];
-        by-data = λ a b la lb x. elim (decLt b a) [ yes y ↦ y | no y ↦ absurd (masks a 0 la (omega arith) b lb (omega arith) .1 x) ];
-      };
-    }
+-- a model that meets its form rules
+pub form-says : (s : List ℕ) → firstBreak (modelForm s) ≡ none → Formed (model s)
+form-says s e = model-says s (none-iff (modelForm s) (modelForm-sound s) .0 e)

@@ -11,16 +11,15 @@ use lib.Bits.{bitAnd, bitOr, or-lt}
 use lib.Dec.{T}
 use lib.ListN.{length, getD, set, replicate, getD-replicate, length-set}
 use lib.Seq.{getD-set-same, getD-set-other}
-use Rattle.schedule.specs.Bounded.{bit, lowest}
+use Rattle.schedule.specs.Bounded.{bit, lowest, table}
 use Rattle.schedule.specs.Plan.{wordIn}
 use Rattle.bits.specs.WithBit.{withoutBit}
 use Rattle.laws.proofs.Tests.{T-or}
 use Rattle.laws.proofs.Counting.{decT, T-true, T-false}
 use Rattle.bits.proofs.WordLaws.{bit-and, bit-not, bit-or, bit-zero}
-use Rattle.bits.proofs.Apart.{lowest-lt, lowest-set, gone, kept}
+use Rattle.bits.proofs.Apart.{lowest-lt, lowest-set, gone, kept, still-within, none-taken}
 use Rattle.run.specs.Front.{startIn, Entered}
-use Rattle.run.specs.Tables.{Filled}
-use Rattle.run.proofs.MaskLaws.{never, still-within}
+use Rattle.tables.proofs.TableLaws.{table-whole}
 use Rattle.run.proofs.PlanLaws.{Clear, clear-none, clear-more, found-here, found-none}
 
 -- ---- one tick
@@ -37,7 +36,7 @@ entering-start word t starts fits h = record {
   fits = fits;
   within = λ a l x. x;
   sized = h;
-  entered = λ a l. sym (ap (λ (x : Bool). cond x t (getD starts a 0)) (never (bit word a)));
+  entered = λ a l. sym (ap (λ (x : Bool). cond x t (getD starts a 0)) (none-taken (bit word a)));
 }
 
 pub entering-next : (word t rest a : ℕ) (starts starts′ : List ℕ) → Entering word t rest starts starts′
@@ -45,7 +44,7 @@ pub entering-next : (word t rest a : ℕ) (starts starts′ : List ℕ) → Ente
     → Entering word t (withoutBit rest a) starts (set starts′ a t)
 entering-next word t rest a starts starts′ h more low fits = record {
   fits = fits;
-  within = still-within word rest a (h .fits) more low (h .within);
+  within = still-within rest a (h .fits) more low word (h .within);
   sized = length-set starts′ a t ∙ h .sized;
   entered = λ i l. elim (ℕ-discrete i a) [
     | yes e ↦ subst (λ (j : ℕ). getD (set starts′ a t) j 0 ≡ cond (bit word j && not (bit (withoutBit rest a) j)) t (getD starts j 0)) (sym e)
@@ -129,11 +128,10 @@ seen-next word h t seen w starts starts′ s l fits e entered = record {
         ∙ found-here h (λ v. bit (word v) a) t (bit w a) l (s .idle a la y) (ap (λ (k : ℕ). bit k a) e) z
 
 pub seen-end : (grid : List ℕ) (h : ℕ) (t seen : ℕ) (starts : List ℕ) → t ≡ h → Seen (wordIn grid) h t seen starts
-    → Filled 32 (startIn grid h) starts
+    → starts ≡ table 32 (startIn grid h)
 unfolding startIn
-seen-end grid h t seen starts e s = record {
-  sized = s .sized;
-  filled = λ a l. ⊎-elim (s .started a l)
-      (λ x. s .unset a l x ∙ sym e ∙ found-none h (λ v. bit (wordIn grid v) a) t (omega arith) (omega arith) (s .idle a l x))
-      (decT (bit seen a));
-}
+seen-end grid h t seen starts e s =
+    table-whole 32 _ starts (s .sized) (λ a l.
+    ⊎-elim (s .started a l)
+    (λ x. s .unset a l x ∙ sym e ∙ found-none h (λ v. bit (wordIn grid v) a) t (omega arith) (omega arith) (s .idle a l x))
+    (decT (bit seen a)))

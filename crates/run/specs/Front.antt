@@ -1,16 +1,15 @@
 -- A plan's bytes in front of its grid, and what the grid's words say.
 -- Assumes nothing.
-use Prim.Native.Nat.{ℕ, _-_, _*_, _<_}
+use Prim.Native.Nat.{ℕ, _<_}
 use mathlib.Core.Bool.{Bool, cond}
 use mathlib.Core.List.{List, _++_}
 use mathlib.Core.Path.{_≡_}
 use lib.ListN.{length, getD, drop}
-use Rattle.schedule.specs.Bounded.{bit, ones, total, greatest, least, lowest}
+use Rattle.schedule.specs.Bounded.{bit, lowest}
 use Rattle.schedule.specs.Model.{Model}
 use Rattle.schedule.specs.Timing.{onTime}
 use Rattle.schedule.specs.Choice.{Choice}
 use Rattle.schedule.specs.Plan.{gridAt, wordIn, pairRows}
-use Rattle.schedule.specs.Answers.{Figures}
 use Rattle.records.specs.Writes.{headBytes}
 
 -- all that stands in front of the grid
@@ -34,21 +33,9 @@ pub record Entered (word t : ℕ) (starts starts′ : List ℕ) : Type 0 where
   pub sized : length starts′ ≡ 32
   pub entered : (a : ℕ) → a < 32 → getD starts′ a 0 ≡ cond (bit word a) t (getD starts a 0)
 
--- "usage (all ones)"
-unfoldable pub usageIn : List ℕ → ℕ → ℕ
-usageIn grid h = total h (λ t. ones (wordIn grid t))
-
 -- activity a keeps its deadline, from tables of periods and ends
 unfoldable pub inTimeFrom : List ℕ → List ℕ → ℕ → Bool
 inTimeFrom periods ends a = onTime (getD periods a 0) (getD periods a 0) (getD ends a 0)
-
--- usage, c times H and makespan, from a buffer that has the grid and a table of ends
-unfoldable pub figuresIn : Model → Choice → List ℕ → List ℕ → Figures
-figuresIn m q out ends = record {
-  usage = usageIn (gridIn m out) (m .horizon);
-  capacity = m .cores * m .horizon;
-  makespan = greatest (m .activities) (λ a. getD ends a 0) - least (m .threads) (q .release);
-}
 
 -- what is written in front of a grid, from a buffer that has it and a table of ends
 unfoldable pub frontIn : Model → Choice → List ℕ → List ℕ → List ℕ

@@ -4,22 +4,27 @@ use Prim.Native.Nat.{ℕ, _≤_, _<_}
 use mathlib.Core.List.{List}
 use mathlib.Core.Path.{_≡_}
 use lib.ListN.{length, getD}
-use Rattle.schedule.specs.Model.{Model}
+use Rattle.schedule.specs.Model.{Model, Formed}
 use Rattle.schedule.specs.Choice.{Choice}
 use Rattle.schedule.specs.Machine.{machineEnd, machineOwes}
 use Rattle.schedule.specs.Answers.{lengthNeeded, Outcome, answerOf, bufferAfter}
 use Rattle.schedule.specs.Numbers.{runNumbers}
 use Rattle.schedule.specs.declared.RunVerdict.{RunVerdict}
 use Rattle.fields.specs.Put.{put}
-use Rattle.run.specs.Masks.{TableOf}
+use Rattle.tables.specs.Columns.{TableOf}
+use Rattle.machine.specs.Played.{gridBytes}
 use Rattle.run.specs.Front.{gridOf}
-use Rattle.run.specs.Grid.{gridBytes, Runs}
 
 -- Tables that hold what the machine leaves at H.
 pub record Stopped (m : Model) (q : Choice) (owed ends : List ℕ) : Type 0 where
-  pub runs : Runs m
+  pub formed : Formed m
   pub owed-ticks : TableOf m owed (machineOwes m (q .release) (q .duration))
   pub end-ticks : TableOf m ends (machineEnd m (q .release) (q .duration))
+
+-- The grid is written behind the rows, and the tables hold what the machine leaves.
+pub record Placed (m : Model) (q : Choice) (out out′ owed ends : List ℕ) : Type 0 where
+  pub written : out′ ≡ put (gridOf m) (gridBytes m q (m .horizon)) out
+  pub stopped : Stopped m q owed ends
 
 -- The grid stands in the buffer, and the tables hold what the machine leaves.
 pub record Standing (m : Model) (q : Choice) (out owed ends : List ℕ) : Type 0 where
@@ -29,7 +34,7 @@ pub record Standing (m : Model) (q : Choice) (out owed ends : List ℕ) : Type 0
 
 -- There is room for what stands in front of the grid, and the ends fit their fields.
 pub record FrontFits (m : Model) (out ends : List ℕ) : Type 0 where
-  pub runs : Runs m
+  pub formed : Formed m
   pub room : gridOf m ≤ length out
   pub small : (a : ℕ) → a < m .activities → getD ends a 0 < 65536
 

@@ -7,19 +7,14 @@ use schedule::RunVerdict;
 use schedule::Written;
 ghost use mathlib.Core.Path.{_≡_};
 ghost use lib.ListN.{length};
-ghost use Rattle.schedule.specs.Model.{model};
+ghost use Rattle.schedule.specs.Model.{model, Formed};
 ghost use Rattle.schedule.specs.Choice.{choice};
 ghost use Rattle.schedule.specs.Answers.{concluded, outcome, runAnswer, runBuffer};
 ghost use Rattle.schedule.specs.Numbers.{runNumbers};
-ghost use Rattle.run.specs.Grid.{Runs};
 ghost use Rattle.run.specs.Outcome.{Standing, Answers};
 
 mod finish;
-mod grid;
-mod machine;
 mod plan;
-mod stretches;
-mod tables;
 
 // The answer once the grid stands in the buffer: "42 and 43 set the plan's length of bytes to 0", a success writes the rest
 // of the plan.
@@ -34,14 +29,16 @@ fn conclude(s: &[u8], q: &[u8], owed: &[u32; 32], ends: &[u32; 32], out: &mut [u
         plan::clear(out, length as usize);
         return RunVerdict::Refused(x);
     }
-    let figures = finish::figures(s, q, ends, out);
     plan::write_front(s, q, ends, out);
-    RunVerdict::Accepted(Written { length, figures })
+    RunVerdict::Accepted(Written {
+        length,
+        figures: tables::figures::figures(s, out),
+    })
 }
 
 // The run past its input: "41 buffer shorter than the plan; A is the length needed", then the machine.
 fn attempt(s: &[u8], q: &[u8], out: &mut [u8]) -> RunVerdict
-    requires { ⌜ Runs (model (now s)) ⌝ }
+    requires { ⌜ Formed (model (now s)) ⌝ }
     ensures { λ r. ⌜ Answers (outcome (model (now (s .entry))) (choice (now (q .entry))) (length (now (out .entry))))
         (model (now (s .entry))) (choice (now (q .entry))) (now (out .entry)) (now (out .exit)) r ⌝ }
 {
@@ -49,9 +46,9 @@ fn attempt(s: &[u8], q: &[u8], out: &mut [u8]) -> RunVerdict
     if out.len() < length as usize {
         return RunVerdict::Refused(finish::refusal(RunRefusal::Room, length));
     }
-    let left = plan::write_grid(s, q, out);
-    let owed = left.owed;
-    let ends = left.ends;
+    let played = plan::write_grid(s, q, out);
+    let owed = played.owed;
+    let ends = played.ends;
     conclude(s, q, &owed, &ends, out)
 }
 

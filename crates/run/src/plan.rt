@@ -1,21 +1,19 @@
 // The plan's bytes: the grid in the later part of the lent buffer, the header and the rows in front of it.
-use crate::grid;
-use crate::grid::Left;
+use machine::Played;
 use records::model::Activity;
 use records::plan::Span;
 ghost use mathlib.Core.Path.{_≡_};
 ghost use mathlib.Core.List.{_++_};
 ghost use Prim.Native.Nat.{ℕ, _≤_, _<_};
 ghost use lib.ListN.{length, getD, drop, replicate};
-ghost use Rattle.schedule.specs.Model.{model};
+ghost use Rattle.schedule.specs.Bounded.{table};
+ghost use Rattle.schedule.specs.Model.{model, Formed};
 ghost use Rattle.schedule.specs.Choice.{choice};
 ghost use Rattle.schedule.specs.Plan.{planThreadRow, planActivityRow, pairRows};
 ghost use Rattle.schedule.specs.Answers.{lengthNeeded};
 ghost use Rattle.fields.specs.Put.{put};
-ghost use Rattle.run.specs.Tables.{Filled};
-ghost use Rattle.run.specs.Grid.{Runs, Finished};
 ghost use Rattle.run.specs.Front.{gridOf, startIn, frontIn, Entered};
-ghost use Rattle.run.specs.Outcome.{FrontFits};
+ghost use Rattle.run.specs.Outcome.{Placed, FrontFits};
 
 // ---- the grid
 
@@ -36,13 +34,13 @@ pub(crate) fn grid_at(s: &[u8]) -> usize
 }
 
 // "the grid written into the later part of the lent buffer": the part behind the rows is lent on.
-pub(crate) fn write_grid(s: &[u8], q: &[u8], out: &mut [u8]) -> Left
-    requires { ⌜ Runs (model (now s)) × (lengthNeeded (model (now s)) ≤ length (now out)) ⌝ }
-    ensures { λ r. ⌜ Finished (model (now (s .entry))) (choice (now (q .entry))) (gridOf (model (now (s .entry))))
-        (now (out .entry)) (now (out .exit)) (r .owed) (r .ends) ⌝ }
+pub(crate) fn write_grid(s: &[u8], q: &[u8], out: &mut [u8]) -> Played
+    requires { ⌜ Formed (model (now s)) × (lengthNeeded (model (now s)) ≤ length (now out)) ⌝ }
+    ensures { λ r. ⌜ Placed (model (now (s .entry))) (choice (now (q .entry))) (now (out .entry)) (now (out .exit))
+        (r .owed) (r .ends) ⌝ }
 {
     let at = grid_at(s);
-    grid::fill_grid(s, q, &mut out[at..])
+    machine::play(s, q, &mut out[at..])
 }
 
 // "42 and 43 set the plan's length of bytes to 0"
@@ -116,24 +114,24 @@ fn enter(word: u32, t: u32, starts: &mut [u32; 32])
 // "Start is the first active tick": where each activity's bit is first set in the words of the grid, h where nowhere.
 fn starts(grid: &[u8], h: usize) -> [u32; 32]
     requires { ⌜ h < 65536 ⌝ }
-    ensures { λ r. ⌜ Filled 32 (startIn (now (grid .entry)) h) r ⌝ }
+    ensures { λ r. ⌜ r ≡ table 32 (startIn (now (grid .entry)) h) ⌝ }
 {
-    let mut table = [h as u32; 32];
+    let mut firsts = [h as u32; 32];
     let mut seen: u32 = 0;
     let mut t = 0;
     while t < h {
         let word = records::grid::word(grid, t);
-        enter(word & !seen, t as u32, &mut table);
+        enter(word & !seen, t as u32, &mut firsts);
         seen = seen | word;
         t += 1;
     }
-    table
+    firsts
 }
 
 // The same of the grid that stands in a buffer, from a position on.
 fn starts_from(out: &[u8], at: usize, h: usize) -> [u32; 32]
     requires { ⌜ (at ≤ length (now out)) × (h < 65536) ⌝ }
-    ensures { λ r. ⌜ Filled 32 (startIn (drop at (now (out .entry))) h) r ⌝ }
+    ensures { λ r. ⌜ r ≡ table 32 (startIn (drop at (now (out .entry))) h) ⌝ }
 {
     starts(&out[at..], h)
 }

@@ -30,8 +30,7 @@ conclude-requires c κs =
     let c7 = c .before .before .before .before .before .before .before in
     let c9 = c7 .before .before in
     let c10 = c9 .before in
-    let c14 = c10 .before .before .before .before in
-    placed-stands _ _ _ _ _ _ (c14 .pre) (omega (arith, c10 .needed .ensures, c9 .if1 .left)) (c7 .write-grid .ensures)
+    placed-stands _ _ _ _ _ _ (omega (arith, c10 .needed .ensures, c9 .if1 .left)) (c7 .write-grid .ensures)
 
 same-length : tie.Need-same-length
 same-length c = search needs

@@ -6,7 +6,9 @@ use mathlib.Core.List.{_++_}
 use mathlib.Core.Path.{sym, ap, _∙_}
 use lib.ListN.{drop, replicate}
 use borrow.Author.Needs.{needs}
+use Rattle.schedule.specs.Fields.{Bytes}
 use Rattle.schedule.specs.Answers.{lengthNeeded}
+use Rattle.laws.proofs.Ranges.{chosen-release-lt, chosen-period-lt}
 use Rattle.records.specs.Reads.{passNumbers}
 use Rattle.run.proofs.RunLaws.{refused-answers, accepted-answers, ends-small}
 use Rattle.run.proofs.conclude.Statement.{statement}
@@ -43,35 +45,33 @@ returns c =
 enum-told : tie.Need-enum-told
 enum-told c = search needs
 
-figures-requires : tie.Need-figures-requires
-unfolding lengthNeeded
-figures-requires c κs =
-    let stands = c .before .before .before .before .before .before .before .before .pre in
-    (stands .stopped .runs, omega (arith, stands .room))
-
 write-front-requires : tie.Need-write-front-requires
 unfolding lengthNeeded
 write-front-requires c κs =
-    let c10 = c .before .before .before .before .before .before .before .before .before .before in
-    let stands = c10 .pre in
+    let stands = c .before .before .before .before .before .before .before .before .pre in
     record {
-      runs = stands .stopped .runs;
+      formed = stands .stopped .formed;
       room = omega (arith, stands .room);
       small = ends-small _ _ _ _ _ stands;
     }
+
+figures-requires : tie.Need-figures-requires
+figures-requires c κs = search needs
 
 same-length-2 : tie.Need-same-length-2
 same-length-2 c = search needs
 
 returns-2 : tie.Need-returns-2
 returns-2 c =
-    let c6 = c .before .before .before .before .before .before in
+    let c4 = c .before .before .before .before in
+    let c6 = c4 .before .before in
     let c8 = c6 .before .before in
-    let c9 = c8 .before in
-    let c13 = c9 .before .before .before .before in
-    accepted-answers _ _ _ _ _ _ _ _ (c13 .pre)
+    let c11 = c8 .before .before .before in
+    let c13 = c11 .before .before in
+    let chosen : Bytes (c13 .args .q .now) = λ i _. c11 .shared-slice-known2 .given i .fits in
+    accepted-answers _ _ _ _ _ _ _ _ (chosen-release-lt _ chosen) (chosen-period-lt _ chosen) (c13 .pre)
     (sym (c8 .judge .ensures) ∙ ap passNumbers (c6 .enum-told .given .1))
-    (c9 .needed .ensures) (c .before .before .before .before .figures .ensures) (c .before .before .write-front .ensures)
+    (c8 .before .needed .ensures) (c4 .write-front .ensures) (c .figures .ensures)
 
 pub conclude-spec : {M : Type 1} → statement M
 conclude-spec =
@@ -85,7 +85,7 @@ conclude-spec =
     same-length
     returns
     enum-told
-    figures-requires
     write-front-requires
+    figures-requires
     same-length-2
     returns-2)

@@ -1,10 +1,9 @@
 -- `run::run` meets its contract: the readers' refusals are the first breaks of the input rules; past them the outcome counts.
 -- Assumes nothing.
-use native.Mathlib.Omega.{arith}
 use mathlib.Core.Path.{sym, ap, _∙_}
 use borrow.Author.Needs.{needs}
 use Rattle.records.specs.Reads.{modelReadNumbers, choiceReadNumbers}
-use Rattle.run.proofs.RunLaws.{answer-refuses, answer-accepts, model-breaks, model-holds, input-refused, input-passed, form-runs}
+use Rattle.run.proofs.RunLaws.{answer-refuses, answer-accepts, model-breaks, model-holds, input-refused, input-passed, form-says}
 use Rattle.run.proofs.run.Statement.{statement}
 use Rattle.run.proofs.run.Tie as tie
 
@@ -17,7 +16,8 @@ enum-known-first c = search needs
 returns : tie.Need-returns
 returns c =
     input-refused _ _ _ _
-    (model-breaks _ _ _ (answer-refuses _ _ _ (sym (ap modelReadNumbers (c .before .first .given .1)) ∙ c .before .before .before .read .ensures)))
+    (model-breaks _ _ _
+    (answer-refuses _ _ _ (sym (ap modelReadNumbers (c .before .first .given .1)) ∙ c .before .before .before .read .ensures)))
 
 enum-told : tie.Need-enum-told
 enum-told c = search needs
@@ -30,18 +30,19 @@ enum-known-second c = search needs
 
 returns-2 : tie.Need-returns-2
 returns-2 c =
-    let c6 = c .before .before .before .before .before .before in
+    let c4 = c .before .before .before .before in
     input-refused _ _ _ _
-    (model-holds _ _ (answer-accepts _ _ _ (sym (ap modelReadNumbers (c .before .before .before .before .enum-told .given .1)) ∙ c6 .read .ensures)) ∙ sym (c .before .before .before .read2 .ensures) ∙ ap choiceReadNumbers (c .before .second .given .1))
+    (model-holds _ _ (answer-accepts _ _ _ (sym (ap modelReadNumbers (c4 .enum-told .given .1)) ∙ c4 .before .before .read .ensures))
+    ∙ sym (c .before .before .before .read2 .ensures)
+    ∙ ap choiceReadNumbers (c .before .second .given .1))
 
 enum-told-2 : tie.Need-enum-told-2
 enum-told-2 c = search needs
 
 attempt-requires : tie.Need-attempt-requires
 attempt-requires c κs =
-    let c6 = c .before .before .before .before .before .before in
-    let c9 = c6 .before .before .before in
-    form-runs _ (λ i l. omega (arith, c9 .shared-slice-known .given i)) (answer-accepts _ _ _ (sym (ap modelReadNumbers (c .before .before .before .before .enum-told .given .1)) ∙ c6 .read .ensures))
+    let c4 = c .before .before .before .before in
+    form-says _ (answer-accepts _ _ _ (sym (ap modelReadNumbers (c4 .enum-told .given .1)) ∙ c4 .before .before .read .ensures))
 
 same-length : tie.Need-same-length
 same-length c = search needs
@@ -52,7 +53,9 @@ returns-3 c =
     let c7 = c6 .before in
     let c9 = c7 .before .before in
     input-passed _ _ _ _ _
-    (model-holds _ _ (answer-accepts _ _ _ (sym (ap modelReadNumbers (c7 .enum-told .given .1)) ∙ c9 .read .ensures)) ∙ sym (c6 .read2 .ensures) ∙ ap choiceReadNumbers (c .before .before .before .before .enum-told2 .given .1))
+    (model-holds _ _ (answer-accepts _ _ _ (sym (ap modelReadNumbers (c7 .enum-told .given .1)) ∙ c9 .read .ensures))
+    ∙ sym (c6 .read2 .ensures)
+    ∙ ap choiceReadNumbers (c .before .before .before .before .enum-told2 .given .1))
     (c .before .before .attempt .ensures)
 
 pub run-spec : {M : Type 1} → statement M

@@ -7,6 +7,8 @@ use borrow.Author.Needs.{needs}
 use Rattle.schedule.specs.Rule.{Refusal}
 use Rattle.records.specs.Rows.{sizesOf}
 use Rattle.records.specs.declared.model.Sizes.{Sizes}
+use Rattle.tables.specs.Columns.{columnOf}
+use Rattle.tables.proofs.TableLaws.{by-table}
 use Rattle.run.proofs.RunLaws.{owed-first, late-first, none-late}
 use Rattle.run.proofs.finish.judge.Statement.{statement}
 use Rattle.run.proofs.finish.judge.Tie as tie
@@ -19,7 +21,7 @@ cast-n c = search needs
 
 first-owing-requires : tie.Need-first-owing-requires
 unfolding sizesOf
-first-owing-requires c κs = omega (arith, ap (λ (r : Sizes). r .activities) (c .before .counts .ensures), c .before .before .before .before .pre .runs .few)
+first-owing-requires c κs = omega (arith, ap (λ (r : Sizes). r .activities) (c .before .counts .ensures), c .before .before .before .before .pre .formed .activities .1)
 
 cast-refusal : tie.Need-cast-refusal
 cast-refusal c = search needs
@@ -38,17 +40,14 @@ returns c =
     (c .before .if1 .taken))
 
 table-requires : tie.Need-table-requires
-unfolding sizesOf
-table-requires c κs =
-    let c6 = c .before .before .before .before .before .before in
-    omega (arith, ap (λ (r : Sizes). r .activities) (c .before .before .before .counts .ensures), c6 .pre .runs .few)
+table-requires c κs = search needs
 
 first-late-requires : tie.Need-first-late-requires
 unfolding sizesOf
 first-late-requires c κs =
     let c5 = c .before .before .before .before .before in
     let c8 = c5 .before .before .before in
-    omega (arith, ap (λ (r : Sizes). r .activities) (c5 .counts .ensures), c8 .pre .runs .few)
+    omega (arith, ap (λ (r : Sizes). r .activities) (c5 .counts .ensures), c8 .pre .formed .activities .1)
 
 cast-refusal-2 : tie.Need-cast-refusal-2
 cast-refusal-2 c = search needs
@@ -57,7 +56,7 @@ refusal-requires-2 : tie.Need-refusal-requires-2
 refusal-requires-2 c κs = search needs
 
 returns-2 : tie.Need-returns-2
-unfolding sizesOf
+unfolding sizesOf columnOf
 returns-2 c =
     let c2 = c .before .before in
     let c4 = c2 .before .before in
@@ -65,17 +64,17 @@ returns-2 c =
     let c8 = c6 .before .before in
     let c11 = c8 .before .before .before in
     ap {B = Option Refusal} some (c .refusal2 .ensures)
-    ∙ sym (late-first _ _ _ _ (c11 .pre) _ (ap (λ (r : Sizes). r .activities) (c8 .counts .ensures)) _ _ _ (c4 .table .ensures)
+    ∙ sym (late-first _ _ _ _ (c11 .pre) _ (ap (λ (r : Sizes). r .activities) (c8 .counts .ensures)) _ _ _ (by-table _ _ _ (c11 .pre .formed .activities .1) (c4 .table .ensures))
     (c6 .first-owing .ensures) (c4 .before .if1 .left) (c2 .first-late .ensures) (c .before .if2 .taken))
 
 returns-3 : tie.Need-returns-3
-unfolding sizesOf
+unfolding sizesOf columnOf
 returns-3 c =
     let c3 = c .before .before .before in
     let c5 = c3 .before .before in
     let c7 = c5 .before .before in
     let c10 = c7 .before .before .before in
-    sym (none-late _ _ _ _ (c10 .pre) _ (ap (λ (r : Sizes). r .activities) (c7 .counts .ensures)) _ _ _ (c3 .table .ensures)
+    sym (none-late _ _ _ _ (c10 .pre) _ (ap (λ (r : Sizes). r .activities) (c7 .counts .ensures)) _ _ _ (by-table _ _ _ (c10 .pre .formed .activities .1) (c3 .table .ensures))
     (c5 .first-owing .ensures) (c3 .before .if1 .left) (c .before .first-late .ensures) (c .if2 .left))
 
 pub judge-spec : {M : Type 1} → statement M

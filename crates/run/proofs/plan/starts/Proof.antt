@@ -9,13 +9,13 @@ use Rattle.run.proofs.plan.starts.Statement.{statement}
 use Rattle.run.proofs.plan.starts.Tie as tie
 
 abbrev Inv-loop : tie.InvT-loop
-Inv-loop grid h table₀ seen₀ t₀ table seen t = (t ≤ h) × (h < 65536) × Seen (wordIn grid) h t seen table
+Inv-loop grid h firsts₀ seen₀ t₀ firsts seen t = (t ≤ h) × (h < 65536) × Seen (wordIn grid) h t seen firsts
 
 abbrev μ-loop : tie.MeasureT-loop
-μ-loop grid h table₀ seen₀ t₀ table seen t = h - t
+μ-loop grid h firsts₀ seen₀ t₀ firsts seen t = h - t
 
-cast-table : tie.Need-cast-table Inv-loop μ-loop
-cast-table c = omega arith
+cast-firsts : tie.Need-cast-firsts Inv-loop μ-loop
+cast-firsts c = omega arith
 
 loop-holds : tie.Need-loop-holds Inv-loop μ-loop
 loop-holds c = (omega arith, c .before .pre, seen-start _ _)
@@ -48,7 +48,7 @@ loop-again c =
 returns : tie.Need-returns Inv-loop μ-loop
 returns c =
     let l = c .before .loop in
-    seen-end _ _ (l .t) (l .seen) (l .table) (omega arith) (l .inv .2)
+    seen-end _ _ (l .t) (l .seen) (l .firsts) (omega arith) (l .inv .2)
 
 pub starts-spec : {M : Type 1} → statement M
 starts-spec =
@@ -56,7 +56,7 @@ starts-spec =
     (tie.spec
     Inv-loop
     μ-loop
-    cast-table
+    cast-firsts
     loop-holds
     word-requires
     cast-enter

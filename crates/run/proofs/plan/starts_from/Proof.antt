@@ -1,10 +1,10 @@
 -- `run::plan::starts_from` meets its contract: the part behind the position, to the end, is the grid.
 -- Assumes nothing.
 use mathlib.Core.List.{List}
-use mathlib.Core.Path.{subst}
+use mathlib.Core.Path.{ap, _∙_}
 use Prim.Native.Nat.{ℕ}
 use Rattle.run.specs.Front.{startIn}
-use Rattle.run.specs.Tables.{Filled}
+use Rattle.schedule.specs.Bounded.{table}
 use Rattle.run.proofs.PlanLaws.{rest-says}
 use borrow.Author.Needs.{needs}
 use Rattle.run.proofs.plan.starts_from.Statement.{statement}
@@ -25,7 +25,7 @@ starts-requires c κs = search needs
 returns : tie.Need-returns
 returns c =
     let x = c .before .before .before .args in
-    subst (λ (l : List ℕ). Filled 32 (startIn l (x .h)) (c .starts .result)) (rest-says (x .at) (x .out .now)) (c .starts .ensures)
+    c .starts .ensures ∙ ap (λ (l : List ℕ). table 32 (startIn l (x .h))) (rest-says (x .at) (x .out .now))
 
 pub starts-from-spec : {M : Type 1} → statement M
 starts-from-spec =

@@ -1,8 +1,12 @@
 -- `run::plan::write_front` meets its contract: the header and the two runs of rows, each behind the one before.
 -- Assumes nothing.
 use native.Mathlib.Omega.{arith}
-use mathlib.Core.Path.{ap}
-use lib.ListN.{drop}
+use Prim.Native.Nat.{ℕ, _<_}
+use mathlib.Core.List.{List}
+use mathlib.Core.Path.{_≡_, ap, _∙_}
+use lib.ListN.{drop, getD}
+use Rattle.schedule.specs.Bounded.{table}
+use Rattle.laws.proofs.MachineLaws.{getD-table}
 use Rattle.records.specs.Rows.{sizesOf}
 use Rattle.records.specs.declared.model.Sizes.{Sizes}
 use Rattle.run.specs.Front.{frontIn}
@@ -10,6 +14,10 @@ use Rattle.run.proofs.PlanLaws.{front-says, start-le}
 use borrow.Author.Needs.{needs}
 use Rattle.run.proofs.plan.write_front.Statement.{statement}
 use Rattle.run.proofs.plan.write_front.Tie as tie
+
+-- an entry of a table
+started : (l : List ℕ) (f : ℕ → ℕ) → l ≡ table 32 f → (a : ℕ) → a < 32 → getD l a 0 ≡ f a
+started l f e a k = ap (λ (t : List ℕ). getD t a 0) e ∙ getD-table 32 f a k
 
 counts-requires : tie.Need-counts-requires
 counts-requires c κs = search needs
@@ -47,12 +55,12 @@ write-activities-requires c κs =
     let grid = drop (c12 .grid-at .result) (c18 .args .out .now) in
     let en = ap (λ (r : Sizes). r .threads) (c14 .counts .ensures) in
     let em = ap (λ (r : Sizes). r .activities) (c14 .counts .ensures) in (
-      omega (arith, em, c18 .pre .runs .few),
+      omega (arith, em, c18 .pre .formed .activities .1),
       omega (arith, en, em, c18 .pre .room, c8 .put-head .kept .0, c4 .write-threads .kept .1 .1 .0),
       λ a l. (
         omega (
           arith,
-          c10 .starts-from .ensures .filled a (omega (arith, l, em, c18 .pre .runs .few)),
+          started (c10 .starts-from .result) _ (c10 .starts-from .ensures) a (omega (arith, l, em, c18 .pre .formed .activities .1)),
           start-le grid (c14 .counts .result .horizon) a,
           c10 .before .struct-known .given,
         ),
@@ -75,7 +83,7 @@ returns c =
     let en = ap (λ (r : Sizes). r .threads) (c17 .counts .ensures) in
     let em = ap (λ (r : Sizes). r .activities) (c17 .counts .ensures) in
     let whole = front-says _ _ _ _ _ _ _ _ (c21 .args .out .now) _ _ _ (omega (arith, en, em, c21 .pre .room))
-    (λ a l. c13 .starts-from .ensures .filled a (omega (arith, l, em, c21 .pre .runs .few)))
+    (λ a l. started (c13 .starts-from .result) _ (c13 .starts-from .ensures) a (omega (arith, l, em, c21 .pre .formed .activities .1)))
     (c11 .put-head .ensures) (c7 .write-threads .ensures) (c .before .before .write-activities .ensures) in
     rw (c17 .counts .ensures, c15 .grid-at .ensures) at whole
 
