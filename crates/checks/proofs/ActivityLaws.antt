@@ -9,20 +9,17 @@ use mathlib.Core.Path.{_≡_, refl, sym, ap, ap₂, _∙_}
 use lib.Dec.{leb, ltb}
 use lib.ListN.{getD}
 use Rattle.schedule.specs.Bounded.{bit, wordOf, _⇒_}
-use Rattle.schedule.specs.Fields.{Bytes}
 use Rattle.schedule.specs.Rule.{Rule}
 use Rattle.schedule.specs.Model.{Model, within, temporally, byData}
-use Rattle.schedule.specs.Plan.{Plan, plan, active}
+use Rattle.schedule.specs.Plan.{Plan, active}
 use Rattle.schedule.specs.Numbers.{ruleNumber}
 use Rattle.schedule.specs.Timing.{deadlineRule}
 use Rattle.schedule.specs.Checks.{countOf, efe, window, rule21, rule22, rule23, rule24, rule25, rule26, rule27}
-use Rattle.laws.proofs.Tests.{T-leb}
-use Rattle.laws.proofs.Counting.{T-ext}
-use Rattle.laws.proofs.FieldLaws.{field-lt}
 use Rattle.laws.proofs.Words.{wordOf-ext}
 use Rattle.laws.proofs.Named.{rule-number}
+use Rattle.tables.specs.Columns.{TableOf}
 use Rattle.checks.specs.declared.activity.ActivityRule.{ActivityRule}
-use Rattle.checks.specs.Tables.{brokenMask, TableOf, finishOf}
+use Rattle.checks.specs.Tables.{brokenMask, finishOf}
 use Rattle.checks.proofs.MaskRow.{one-column}
 use Rattle.checks.specs.Rules.{activityRule, activityName, earlyFrom, noneOutside}
 
@@ -54,11 +51,6 @@ data-mask m p ends none a preceding start n e s k h z =
     ∙ wordOf-ext (m .activities) _ _ (λ b l.
     ap₂ (λ (x y : ℕ). not (bit x b ⇒ leb y start)) e (ap₂ _+_ (h b l) (z b) ∙ add-zero (p .end b))
     ∙ ap (λ (x : ℕ). not (byData m b a ⇒ leb (p .end b) x)) s)
-
--- 27 by the sum of efe and count
-pub eligible-sum : (e k s : ℕ) → leb (e + k) (s + k) ≡ leb e s
-eligible-sum e k s = T-ext _ _ (λ t. T-leb e s .1 (omega (arith, T-leb (e + k) (s + k) .0 t)))
-    (λ t. T-leb (e + k) (s + k) .1 (omega (arith, T-leb e s .0 t)))
 
 -- a rule of activities is tried at m activities and at no more than 32 columns
 pub activity-rows : (rule : ActivityRule) (m : Model) (p : Plan) → activityRule rule m p .rows ≡ m .activities
@@ -101,13 +93,10 @@ pub span-test : (m : Model) (p : Plan) (a start count end : ℕ) (t : Bool)
 unfolding rule24
 span-test m p a start count end t e s k n = e ∙ ap₂ leb (ap₂ _+_ s k) n
 
-pub eligible-test : (m : Model) (p : Plan) (a start count finish : ℕ) (t : Bool)
-    → t ≡ leb finish (start + count) → start ≡ p .start a → count ≡ countOf m p a → finish ≡ finishOf m p a
-    → t ≡ rule27 m p .test a 0
+pub eligible-test : (m : Model) (p : Plan) (a start count finish from : ℕ)
+    → from ≡ finish - count → start ≡ p .start a → count ≡ countOf m p a → finish ≡ finishOf m p a
+    → leb from start ≡ rule27 m p .test a 0
 unfolding rule27
-eligible-test m p a start count finish t e s k f =
-    e ∙ ap₂ leb f (ap₂ _+_ s k) ∙ eligible-sum (efe m p a) (countOf m p a) (p .start a)
-
-pub start-lt : (r : List ℕ) → Bytes r → (a : ℕ) → plan r .start a < 65536
-unfolding plan
-start-lt r h a = field-lt r h _ 2
+eligible-test m p a start count finish from e s k f =
+    let efe-is : from ≡ efe m p a = omega (arith, e, f, k) in
+    ap₂ leb efe-is s

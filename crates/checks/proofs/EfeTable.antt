@@ -10,12 +10,10 @@ use lib.Dec.{T}
 use lib.ListN.{length, getD, set}
 use lib.Seq.{getD-set-same, getD-set-other, set-out}
 use Rattle.schedule.specs.Bounded.{bit, greatest}
-use Rattle.schedule.specs.Fields.{Bytes}
-use Rattle.schedule.specs.Model.{Model, model, temporally, byData, Ordered}
-use Rattle.schedule.specs.Plan.{Plan, plan, active}
+use Rattle.schedule.specs.Model.{Model, temporally, byData, Ordered}
+use Rattle.schedule.specs.Plan.{Plan, active}
 use Rattle.schedule.specs.Checks.{countOf, efe, efeFrom}
 use Rattle.laws.proofs.Counting.{count-le}
-use Rattle.laws.proofs.FieldLaws.{field-lt}
 use Rattle.laws.proofs.Sums.{greatest-ext, greatest-bound}
 use Rattle.laws.proofs.EfeLaws.{efe-equation}
 use Rattle.checks.specs.Tables.{after, waitsFrom, finishOf}
@@ -95,23 +93,6 @@ pub from-after : (m : Model) (p : Plan) (a : ℕ)
     → max (efe m p a) (after m (m .activities) (p .end) a) ≡ waitsFrom m p a
 unfolding waitsFrom
 from-after m p a = ap (max (efe m p a)) (after-parts m (m .activities) (p .end) a)
-
--- fields of two bytes of the records
-pub delay-lt : (s : List ℕ) → Bytes s → (b : ℕ) → model s .delay b < 65536
-unfolding model
-delay-lt s h b = field-lt s h _ 2
-
-pub horizon-lt : (s : List ℕ) → Bytes s → model s .horizon < 65536
-unfolding model
-horizon-lt s h = field-lt s h _ 2
-
-pub release-lt : (r : List ℕ) → Bytes r → (j : ℕ) → plan r .release j < 65536
-unfolding plan
-release-lt r h j = field-lt r h _ 2
-
-pub end-lt : (r : List ℕ) → Bytes r → (a : ℕ) → plan r .end a < 65536
-unfolding plan
-end-lt r h a = field-lt r h _ 2
 
 pub count-lt : (m : Model) (p : Plan) (a : ℕ) → m .horizon < 65536 → countOf m p a < 65536
 unfolding countOf

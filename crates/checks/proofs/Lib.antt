@@ -5,7 +5,6 @@ pub mod TickLaws
 pub mod EfeTable
 pub mod MaskRow
 pub mod ActivityLaws
-pub mod FigureLaws
 pub mod ListLaws
 pub mod RuleOrder
 pub mod CheckLaws

@@ -2,25 +2,25 @@
 -- Assumes nothing.
 use Prim.Native.Nat.{ℕ, _+_, _-_, _≤_, _<_, max}
 use native.Mathlib.Omega.{arith}
-use mathlib.Core.Bool.{Bool, true, false, _&&_, cond}
+use mathlib.Core.Bool.{Bool, true, false, cond}
 use mathlib.Core.List.{List, _++_, map}
 use mathlib.Core.Path.{_≡_, refl, sym, subst, ap, ap₂, _∙_}
-use lib.Dec.{eqb, ltb}
-use lib.ListN.{length}
-use Rattle.schedule.specs.Bounded.{wordOf}
+use lib.ListN.{length, getD}
+use Rattle.schedule.specs.Bounded.{table}
 use Rattle.schedule.specs.Rule.{break, firstBreak}
-use Rattle.schedule.specs.Model.{Model, priorityOf, temporally, byData}
+use Rattle.schedule.specs.Model.{Model, temporally, byData}
 use Rattle.schedule.specs.Plan.{Plan}
 use Rattle.schedule.specs.Checks.{countOf, rulesOf, plainRules, strictRules}
 use Rattle.schedule.specs.declared.Refusal.{Refusal}
+use Rattle.laws.proofs.MachineLaws.{getD-table}
 use Rattle.laws.proofs.Sums.{greatest-ext}
-use Rattle.laws.proofs.Words.{wordOf-ext}
 use Rattle.records.specs.declared.Pass.{Pass}
 use Rattle.records.specs.Reads.{passNumbers}
 use Rattle.checks.specs.declared.activity.ActivityRule.{ActivityRule}
 use Rattle.checks.specs.declared.activity.Following.{Following}
-use Rattle.checks.specs.declared.tick.TickRule.{TickRule}
-use Rattle.checks.specs.Tables.{TableOf, TableOnly, after, finishOf, fromOf, outranksFrom, rankMask, loadRule, rankRule, Ranked, Tabled, Timed}
+use Rattle.tables.specs.Columns.{TableOf}
+use Rattle.tables.specs.Ranking.{rankingOf}
+use Rattle.checks.specs.Tables.{after, waitsFrom, finishOf, fromOf, loadRule, rankRule, orderOf, Ranked}
 use Rattle.checks.specs.Rules.{activityName, activityRule, activityOrder, activityRules, behind, firstOf, untried, untriedRules}
 use Rattle.checks.specs.Rules.{twoRules, tickRules, gridRules}
 use Rattle.checks.proofs.EfeTable.{from-after}
@@ -105,48 +105,26 @@ module _ (m : Model) (p : Plan) where
       subst (λ (b : Bool). passNumbers u ≡ firstBreak (tickRules b m p)) (sym more)
       (list-goes-on t (twoRules false m p) (twoRules true m p) (passNumbers u) told e h)
 
-  -- the tables of ticks
-  pub timed : (counts finishes ends froms priorities : List ℕ) → m .activities ≤ 32 → TableOf m counts (countOf m p)
-      → TableOf m finishes (finishOf m p) → TableOf m ends (p .end) → TableOf m froms (fromOf m finishes counts ends)
-      → TableOf m priorities (priorityOf m) → Timed m p froms ends priorities
-  unfolding after
-  timed counts finishes ends froms priorities few hc hf he h hp = record {
-    few = few;
-    from-ticks = λ a l.
-        h a l
-        ∙ ap₂ max (omega (arith, hc a l, hf a l))
-        (greatest-ext (m .activities) _ _ (λ b lb.
-        ap (λ (x : ℕ). cond (temporally m b a) (x + m .delay b) (cond (byData m b a) x 0)) (he b lb)))
-        ∙ from-after m p a;
-    end-ticks = he;
-    ranks = hp;
-  }
+  -- the counts of a model's activities
+  pub count-table : (counted : List ℕ) → m .activities ≤ 32 → counted ≡ table 32 (countOf m p) → TableOf m counted (countOf m p)
+  count-table counted few e a l = ap (λ (x : List ℕ). getD x a 0) e ∙ getD-table 32 (countOf m p) a (omega arith)
 
-  -- the tables of a rule of ticks
-  pub tabled : (rule : TickRule) (froms ends priorities masks : List ℕ) → Timed m p froms ends priorities → Ranked rule m masks
-      → Tabled rule m p froms ends masks
-  tabled rule froms ends priorities masks t r =
-      record { few = t .few; from-ticks = t .from-ticks; end-ticks = t .end-ticks; ranked = r }
+  -- the ticks from which activities can wait, from the other tables
+  pub from-tables : (counted ended done opened : List ℕ) → TableOf m counted (countOf m p) → TableOf m ended (p .end)
+      → TableOf m done (finishOf m p) → TableOf m opened (fromOf m done counted ended) → TableOf m opened (waitsFrom m p)
+  unfolding after
+  from-tables counted ended done opened hc he hf h a l =
+      h a l
+      ∙ ap₂ max (omega (arith, hc a l, hf a l))
+      (greatest-ext (m .activities) _ _ (λ b lb.
+      ap (λ (x : ℕ). cond (temporally m b a) (x + m .delay b) (cond (byData m b a) x 0)) (he b lb)))
+      ∙ from-after m p a
 
   -- the rule of how many are active needs no ranks, and the other needs those of its check
   pub load-ranks : (strict : Bool) (masks : List ℕ) → Ranked (loadRule strict) m masks
   load-ranks true masks = tt
   load-ranks false masks = tt
 
-  pub rank-ranks : (strict : Bool) (masks : List ℕ) → TableOnly (m .activities) masks (rankMask m strict)
-      → Ranked (rankRule strict) m masks
+  pub rank-ranks : (strict : Bool) (masks : List ℕ) → masks ≡ rankingOf (orderOf strict) m → Ranked (rankRule strict) m masks
   rank-ranks true masks h = h
   rank-ranks false masks h = h
-
-  -- the masks by rank, from the priorities
-  pub ranked : (level : Bool) (n : ℕ) (priorities masks : List ℕ) → n ≡ m .activities → TableOf m priorities (priorityOf m)
-      → TableOnly n masks (λ a. wordOf n (outranksFrom priorities level a)) → TableOnly (m .activities) masks (rankMask m level)
-  unfolding rankMask
-  ranked level n priorities masks e h held = record {
-    below = λ a l.
-        held .below a (omega (arith, e))
-        ∙ ap (λ (k : ℕ). wordOf k (outranksFrom priorities level a)) e
-        ∙ wordOf-ext (m .activities) _ _ (λ b lb.
-        ap₂ (λ (x y : ℕ). cond level (eqb x y && ltb b a) (ltb y x)) (h b lb) (h a l));
-    beyond = λ a l. held .beyond a (omega (arith, e));
-  }

@@ -12,7 +12,7 @@ use lib.Dec.{T, leb, ltb, eqb}
 use lib.ListN.{getD}
 use lib.Pow.{pow-mono}
 use Rattle.schedule.specs.Bounded.{all, ones, bit, wordOf}
-use Rattle.schedule.specs.Model.{Model}
+use Rattle.schedule.specs.Model.{Model, priorityOf}
 use Rattle.schedule.specs.Plan.{Plan, active}
 use Rattle.schedule.specs.Checks.{waits, rule28, rule29, rule30, rule31}
 use Rattle.schedule.specs.Numbers.{ruleNumber}
@@ -23,8 +23,12 @@ use Rattle.laws.proofs.Named.{rule-number}
 use Rattle.bits.proofs.WordLaws.{bit-zero}
 use Rattle.checks.specs.declared.tick.TickRule.{TickRule}
 use Rattle.checks.specs.Windows.{openOf, without}
-use Rattle.checks.specs.Tables.{TableOnly, brokenMask, any, waitingMask, rankMask, outranking, outrankingOf}
-use Rattle.checks.specs.Tables.{tickRule, tickName, breakingOf, Tabled}
+use Rattle.tables.specs.declared.ranking.Order.{Order}
+use Rattle.tables.specs.Columns.{amongActivities}
+use Rattle.tables.specs.Ranking.{ranks, rankingOf}
+use Rattle.tables.proofs.TableLaws.{by-table, by-beyond, among-all}
+use Rattle.checks.specs.Tables.{ends, froms, brokenMask, any, waitingMask, rankMask, outranking, outrankingOf}
+use Rattle.checks.specs.Tables.{tickRule, tickName, breakingOf, Tabulated, Ranked}
 use Rattle.checks.proofs.WaitLaws.{waits-when, idle-mask, preemption-mask, tie-mask, cores-mask}
 
 -- where nothing waits, nothing breaks a rule that is tried of the waiting
@@ -60,9 +64,9 @@ fewer-any n p q few h none = ap not same
           | no k ↦ subst (λ (x : Bool). T (not x)) (sym (none i (omega (arith, k)))) tt
         ]))
 
-module _ (rule : TickRule) (m : Model) (p : Plan) (froms ends masks : List ℕ) (h : Tabled rule m p froms ends masks) where
+module _ (m : Model) (p : Plan) (tables : List (List ℕ)) (h : Tabulated m p tables) where
   -- what is open and not active waits
-  waiting-is : (t : ℕ) → without (openOf (m .activities) froms ends t) (p .word t) ≡ waitingMask m p t
+  waiting-is : (t : ℕ) → without (openOf (m .activities) (froms tables) (ends tables) t) (p .word t) ≡ waitingMask m p t
   unfolding without openOf waitingMask
   waiting-is t =
       fewer-bits (m .activities) _ (waits m p t) (h .few)
@@ -75,7 +79,7 @@ module _ (rule : TickRule) (m : Model) (p : Plan) (froms ends masks : List ℕ) 
       (bit-high (wordOf (m .activities) inside) (m .activities) a (wordOf-lt (m .activities) inside) l)))
     where
       inside : ℕ → Bool
-      inside a = leb (getD froms a 0) t && ltb t (getD ends a 0)
+      inside a = leb (getD (froms tables) a 0) t && ltb t (getD (ends tables) a 0)
 
       swap : (x y : Bool) → (x && y) ≡ (y && x)
       swap true true = refl
@@ -83,31 +87,40 @@ module _ (rule : TickRule) (m : Model) (p : Plan) (froms ends masks : List ℕ) 
       swap false true = refl
       swap false false = refl
 
-  outranking-is : (level : Bool) → TableOnly (m .activities) masks (rankMask m level) → (word : ℕ)
-      → outrankingOf masks word ≡ outranking (m .activities) (rankMask m level) word
-  unfolding outrankingOf outranking
-  outranking-is level ranked word =
+  outranking-is : (order : Order) (masks : List ℕ) → masks ≡ rankingOf order m → (word : ℕ)
+      → outrankingOf masks word ≡ outranking (m .activities) (rankMask m order) word
+  unfolding outrankingOf outranking rankMask rankingOf
+  outranking-is order masks e word =
       wordOf-ext 32 _ _ (λ b _. fewer-any (m .activities) _ _ (h .few)
-      (λ a l. ap (λ (x : ℕ). bit word a && bit x b) (ranked .below a l))
-      (λ a l. ap (λ (x : ℕ). bit word a && bit x b) (ranked .beyond a l)
+      (λ a l. ap (λ (x : ℕ). bit word a && bit x b) (below a l))
+      (λ a l. ap (λ (x : ℕ). bit word a && bit x b) (beyond a l)
       ∙ ap (λ (x : Bool). bit word a && x) (bit-zero b) ∙ and-false (bit word a)))
+    where
+      before : ℕ → ℕ
+      before a = amongActivities m (λ b. ranks order (priorityOf m) b a)
+
+      below : (a : ℕ) → a < m .activities → getD masks a 0 ≡ wordOf (m .activities) (λ b. ranks order (priorityOf m) b a)
+      below a l = by-table m before masks (h .few) e a l ∙ among-all m (λ b. ranks order (priorityOf m) b a) (h .few)
+
+      beyond : (a : ℕ) → m .activities ≤ a → getD masks a 0 ≡ 0
+      beyond a l = ap (λ (x : List ℕ). getD x a 0) e ∙ by-beyond m before a l
 
 -- the mask of a rule's broken places at a tick
-pub tick-mask : (rule : TickRule) (m : Model) (p : Plan) (froms ends masks : List ℕ) → Tabled rule m p froms ends masks
-    → (t : ℕ) → breakingOf rule (p .word t) (m .cores) (openOf (m .activities) froms ends t) masks ≡ brokenMask (tickRule rule m p) t
-tick-mask TickRule.Cores m p froms ends masks h t = sym (cores-mask m p t)
-tick-mask TickRule.Preemption m p froms ends masks h t =
+pub tick-mask : (rule : TickRule) (m : Model) (p : Plan) (tables : List (List ℕ)) (masks : List ℕ) → Tabulated m p tables
+    → Ranked rule m masks → (t : ℕ)
+    → breakingOf rule (p .word t) (m .cores) (openOf (m .activities) (froms tables) (ends tables) t) masks
+    ≡ brokenMask (tickRule rule m p) t
+tick-mask TickRule.Cores m p tables masks h r t = sym (cores-mask m p t)
+tick-mask TickRule.Preemption m p tables masks h r t =
     ap₂ (λ (x y : ℕ). cond (eqb (ones (p .word t)) (m .cores)) (bitAnd x y) 0)
-    (waiting-is TickRule.Preemption m p froms ends masks h t)
-    (outranking-is TickRule.Preemption m p froms ends masks h false (h .ranked) (p .word t))
+    (waiting-is m p tables h t) (outranking-is m p tables h Order.Higher masks r (p .word t))
     ∙ sym (preemption-mask m p t (h .few))
-tick-mask TickRule.Idle m p froms ends masks h t =
-    ap (λ (x : ℕ). cond (ltb (ones (p .word t)) (m .cores)) x 0) (waiting-is TickRule.Idle m p froms ends masks h t)
+tick-mask TickRule.Idle m p tables masks h r t =
+    ap (λ (x : ℕ). cond (ltb (ones (p .word t)) (m .cores)) x 0) (waiting-is m p tables h t)
     ∙ sym (idle-mask m p t)
-tick-mask TickRule.Tie m p froms ends masks h t =
+tick-mask TickRule.Tie m p tables masks h r t =
     ap₂ (λ (x y : ℕ). cond (eqb (ones (p .word t)) (m .cores)) (bitAnd x y) 0)
-    (waiting-is TickRule.Tie m p froms ends masks h t)
-    (outranking-is TickRule.Tie m p froms ends masks h true (h .ranked) (p .word t))
+    (waiting-is m p tables h t) (outranking-is m p tables h Order.Level masks r (p .word t))
     ∙ sym (tie-mask m p t (h .few))
 
 -- a rule of ticks is tried at H ticks and at no more than 32 columns
@@ -129,12 +142,13 @@ pub tick-number : (rule : TickRule) (m : Model) (p : Plan) → ruleNumber (tickN
 tick-number rule m p = rule-number m p (tickName rule)
 
 -- the mask of a tick, from the word, the cores and the open windows that the code reads
-pub tick-read : (rule : TickRule) (m : Model) (p : Plan) (froms ends masks : List ℕ) → Tabled rule m p froms ends masks
-    → (t word cores n opened mask : ℕ) → mask ≡ breakingOf rule word cores opened masks
-    → word ≡ p .word t → cores ≡ m .cores → opened ≡ openOf n froms ends t → n ≡ m .activities
+pub tick-read : (rule : TickRule) (m : Model) (p : Plan) (tables : List (List ℕ)) (masks : List ℕ) → Tabulated m p tables
+    → Ranked rule m masks → (t word cores n opened mask : ℕ) → mask ≡ breakingOf rule word cores opened masks
+    → word ≡ p .word t → cores ≡ m .cores → opened ≡ openOf n (froms tables) (ends tables) t → n ≡ m .activities
     → mask ≡ brokenMask (tickRule rule m p) t
-tick-read rule m p froms ends masks h t word cores n opened mask e w c o k =
+tick-read rule m p tables masks h r t word cores n opened mask e w c o k =
     e
     ∙ ap (λ (x : ℕ). breakingOf rule x cores opened masks) w
-    ∙ ap₂ (λ (x y : ℕ). breakingOf rule (p .word t) x y masks) c (o ∙ ap (λ (x : ℕ). openOf x froms ends t) k)
-    ∙ tick-mask rule m p froms ends masks h t
+    ∙ ap₂ (λ (x y : ℕ). breakingOf rule (p .word t) x y masks) c
+    (o ∙ ap (λ (x : ℕ). openOf x (froms tables) (ends tables) t) k)
+    ∙ tick-mask rule m p tables masks h r t

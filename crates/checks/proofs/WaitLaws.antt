@@ -17,6 +17,7 @@ use Rattle.laws.proofs.Sums.{greatest-bound, greatest-each}
 use Rattle.laws.proofs.Sound.{waits-sound}
 use Rattle.laws.proofs.Words.{wordOf-ext, wordOf-lt, word-ext, bit-wordOf}
 use Rattle.bits.proofs.WordLaws.{bit-and, zero-bits}
+use Rattle.tables.specs.declared.ranking.Order.{Order}
 use Rattle.checks.specs.Tables.{brokenMask, any, waitsFrom, waitingMask, rankMask, outranking}
 
 -- a term that counts only where a test passes
@@ -141,12 +142,12 @@ leb-not-ltb x y = T-ext _ _ (λ h. simp tests (λ l. omega (arith, T-leb x y .0 
 -- 29: with exactly c ones, the waiting with a priority above some active one's
 pub preemption-mask : (m : Model) (p : Plan) (t : ℕ) → m .activities ≤ 32
     → brokenMask (rule29 m p) t
-    ≡ cond (eqb (ones (p .word t)) (m .cores)) (bitAnd (waitingMask m p t) (outranking (m .activities) (rankMask m false) (p .word t))) 0
+    ≡ cond (eqb (ones (p .word t)) (m .cores)) (bitAnd (waitingMask m p t) (outranking (m .activities) (rankMask m Order.Higher) (p .word t))) 0
 unfolding brokenMask rule29 rankMask
 preemption-mask m p t few =
     wordOf-ext (m .activities) _ _ (λ b _. ap (λ (x : Bool). not (eqb (ones (p .word t)) (m .cores) ⇒ waits m p t b ⇒ x))
     (all-ext (m .activities) _ _ (λ a _. ap (λ (x : Bool). active p t a ⇒ x) (leb-not-ltb (priorityOf m b) (priorityOf m a)))))
-    ∙ contested m p t few (eqb (ones (p .word t)) (m .cores)) (rankMask m false) (λ a b. ltb (priorityOf m a) (priorityOf m b))
+    ∙ contested m p t few (eqb (ones (p .word t)) (m .cores)) (rankMask m Order.Higher) (λ a b. ltb (priorityOf m a) (priorityOf m b))
     (λ a b _ lb. bit-wordOf (m .activities) (λ b. ltb (priorityOf m a) (priorityOf m b)) b lb)
 
 swapped : (a b c : Bool) → (a ⇒ b ⇒ c) ≡ (b ⇒ a ⇒ c)
@@ -163,7 +164,7 @@ not-both false false = refl
 -- 31: with exactly c ones, the waiting with the priority of some active activity with a larger number
 pub tie-mask : (m : Model) (p : Plan) (t : ℕ) → m .activities ≤ 32
     → brokenMask (rule31 m p) t
-    ≡ cond (eqb (ones (p .word t)) (m .cores)) (bitAnd (waitingMask m p t) (outranking (m .activities) (rankMask m true) (p .word t))) 0
+    ≡ cond (eqb (ones (p .word t)) (m .cores)) (bitAnd (waitingMask m p t) (outranking (m .activities) (rankMask m Order.Level) (p .word t))) 0
 unfolding brokenMask rule31 rankMask
 tie-mask m p t few =
     wordOf-ext (m .activities) _ _ (λ b _. ap not
@@ -171,7 +172,7 @@ tie-mask m p t few =
     ∙ ap (λ (x : Bool). eqb (ones (p .word t)) (m .cores) ⇒ waits m p t b ⇒ x)
     (all-ext (m .activities) _ _ (λ a _. ap (λ (x : Bool). active p t a ⇒ x)
     (not-both (ltb b a) (eqb (priorityOf m b) (priorityOf m a)))))))
-    ∙ contested m p t few (eqb (ones (p .word t)) (m .cores)) (rankMask m true)
+    ∙ contested m p t few (eqb (ones (p .word t)) (m .cores)) (rankMask m Order.Level)
     (λ a b. eqb (priorityOf m b) (priorityOf m a) && ltb b a)
     (λ a b _ lb. bit-wordOf (m .activities) (λ b. eqb (priorityOf m b) (priorityOf m a) && ltb b a) b lb)
 

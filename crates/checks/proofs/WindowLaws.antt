@@ -3,7 +3,7 @@
 use Prim.Native.Nat.{ℕ, _+_, _-_, _^_, _≤_, _<_}
 use native.Mathlib.Numerals.{add-one}
 use native.Mathlib.Omega.{arith}
-use mathlib.Core.Bool.{Bool, true, false, _&&_, _||_, not, cond}
+use mathlib.Core.Bool.{Bool, true, false, _&&_, _||_, not}
 use mathlib.Core.List.{List}
 use mathlib.Core.Path.{_≡_, refl, sym, ap, ap₂, _∙_}
 use lib.Bits.{bitAnd, bitOr, and-lt}
@@ -13,15 +13,14 @@ use lib.Pow.{ones-sub-lt}
 use Rattle.schedule.specs.Bounded.{all, bit, wordOf, _⇒_}
 use Rattle.schedule.specs.Model.{Model}
 use Rattle.schedule.specs.Plan.{Plan, active}
-use Rattle.laws.proofs.Tests.{up-to}
-use Rattle.laws.proofs.Between.{between-leb, between-ltb, sooner-le}
+use Rattle.laws.proofs.Between.{between-leb, between-ltb}
 use Rattle.laws.proofs.Steps.{all-start}
 use Rattle.laws.proofs.Words.{bit-wordOf, word-ext, wordOf-ext, wordOf-lt}
 use Rattle.bits.proofs.WordLaws.{bit-and, bit-not, bit-or, bit-zero}
-use Rattle.checks.specs.declared.windows.OpenSet.{OpenSet}
-use Rattle.checks.specs.Tables.{TableOf}
+use Rattle.ticks.specs.Kept.{Quiet}
+use Rattle.tables.specs.Columns.{TableOf}
 use Rattle.checks.specs.Rules.{noneOutside}
-use Rattle.checks.specs.Windows.{openOf, Quiet, Stands, without}
+use Rattle.checks.specs.Windows.{openOf, without}
 
 -- what the code computes of two words
 pub without-and : (x y : ℕ) → x < 2 ^ 32 → y < 2 ^ 32 → bitAnd x ((2 ^ 32 - 1) - y) ≡ without x y
@@ -32,44 +31,14 @@ without-and x y hx hy =
     ∙ sym (bit-wordOf 32 (λ a. bit x a && not (bit y a)) b l))
 
 -- where nothing opens or closes, the same windows are open
-pub quiet-same : (n : ℕ) (froms ends : List ℕ) (t u v : ℕ) → Quiet n froms ends t u → t ≤ v → v < u
+pub quiet-same : (n : ℕ) (froms ends : List ℕ) (t u v : ℕ)
+    → Quiet n (λ a. getD froms a 0) t u × Quiet n (λ a. getD ends a 0) t u → t ≤ v → v < u
     → openOf n froms ends v ≡ openOf n froms ends t
 unfolding openOf
 quiet-same n froms ends t u v q h l =
     wordOf-ext n _ _ (λ a la.
-    ap₂ _&&_ (between-leb (getD froms a 0) t v h (λ k. omega (arith, q .opens a la k)))
-    (between-ltb (getD ends a 0) t v h (λ k. omega (arith, q .closes a la k))))
-
-pub quiet-start : (froms ends : List ℕ) (t u : ℕ) → Quiet 0 froms ends t u
-quiet-start froms ends t u = record { opens = λ a l. absurd (omega arith); closes = λ a l. absurd (omega arith) }
-
--- one window more
-pub quiet-next : (n : ℕ) (froms ends : List ℕ) (t u v w : ℕ)
-    → v ≡ cond (ltb t (getD froms n 0) && ltb (getD froms n 0) u) (getD froms n 0) u
-    → w ≡ cond (ltb t (getD ends n 0) && ltb (getD ends n 0) v) (getD ends n 0) v
-    → Quiet n froms ends t u → Quiet (n + 1) froms ends t w
-quiet-next n froms ends t u v w e f q = record {
-  opens = λ a l. up-to (λ a. t < getD froms a 0 → w ≤ getD froms a 0) n
-      (λ a la h. omega (arith, q .opens a la h, first .0, second .0)) (λ h. omega (arith, first .1 h, second .0)) a (omega arith);
-  closes = λ a l. up-to (λ a. t < getD ends a 0 → w ≤ getD ends a 0) n
-      (λ a la h. omega (arith, q .closes a la h, first .0, second .0)) (second .1) a (omega arith);
-}
-  where
-    first : (v ≤ u) × (t < getD froms n 0 → v ≤ getD froms n 0)
-    first = sooner-le u (getD froms n 0) t v e
-
-    second : (w ≤ v) × (t < getD ends n 0 → w ≤ getD ends n 0)
-    second = sooner-le v (getD ends n 0) t w f
-
--- nothing is known at first, and what stands goes on standing
-pub unknown-stands : (n : ℕ) (froms ends : List ℕ) (t : ℕ) (known : OpenSet) → known ≡ record { mask = 0; until = 0 }
-    → Stands n froms ends known t
-unknown-stands n froms ends t known e v h l =
-    let z : known .until ≡ 0 = ap (λ (y : OpenSet). y .until) e in absurd (omega (arith, l, z))
-
-pub stands-on : (n : ℕ) (froms ends : List ℕ) (t : ℕ) (known : OpenSet) → Stands n froms ends known t
-    → Stands n froms ends known (t + 1)
-stands-on n froms ends t known h v k l = h v (omega arith) l
+    ap₂ _&&_ (between-leb (getD froms a 0) t v h (λ k. omega (arith, q .0 a la k)))
+    (between-ltb (getD ends a 0) t v h (λ k. omega (arith, q .1 a la k))))
 
 pub stray-start : (a : ℕ) (p : ℕ → Bool) → bit 0 a ≡ not (all 0 p)
 stray-start a p = bit-zero a ∙ sym (ap not (all-start p))

@@ -1,24 +1,19 @@
--- Loops over the bits of a word, the lowest first: counts of each activity, and masks joined.
+-- A loop over the bits of a word, the lowest first: masks joined.
 -- Assumes nothing.
-use Prim.Native.Nat.{ℕ, _+_, _^_, _≤_, _<_}
-use native.Mathlib.Decide.{decLt, ℕ-discrete}
-use native.Mathlib.Omega.{arith}
-use mathlib.Core.Bool.{Bool, true, false, _&&_, _||_, not, cond, or-false}
-use mathlib.Core.List.{List}
-use mathlib.Core.Path.{_≡_, refl, sym, subst, ap, ap₂, _∙_}
+use Prim.Native.Nat.{ℕ, _^_, _<_}
+use native.Mathlib.Decide.{ℕ-discrete}
+use mathlib.Core.Bool.{Bool, true, false, _&&_, _||_, not, or-false}
+use mathlib.Core.Path.{_≡_, refl, sym, subst, ap, _∙_}
 use lib.Bits.{bitOr}
 use lib.Dec.{T}
-use lib.ListN.{length, getD, set, List·getD-eq-default}
-use lib.Seq.{getD-set-same, getD-set-other}
-use Rattle.schedule.specs.Bounded.{all, bit, count, lowest}
+use Rattle.schedule.specs.Bounded.{all, bit, lowest}
 use Rattle.bits.specs.WithBit.{withoutBit}
 use Rattle.laws.proofs.Tests.{T-all, T-and}
-use Rattle.laws.proofs.Counting.{T-true, T-ext, count-le}
-use Rattle.laws.proofs.Steps.{count-next}
+use Rattle.laws.proofs.Counting.{T-true, T-ext}
 use Rattle.laws.proofs.Words.{bit-wordOf, word-ext, wordOf-lt}
 use Rattle.bits.proofs.WordLaws.{bit-or, bit-zero}
 use Rattle.bits.proofs.Apart as apart
-use Rattle.checks.specs.Tables.{any, outranking, Tallied}
+use Rattle.checks.specs.Tables.{any, outranking}
 
 module _ (rest a : ℕ) (fits : rest < 2 ^ 32) (more : ¬ (rest ≡ 0)) (low : a ≡ lowest 32 (bit rest)) where
   lowest-lt : a < 32
@@ -32,17 +27,6 @@ module _ (rest a : ℕ) (fits : rest < 2 ^ 32) (more : ¬ (rest ≡ 0)) (low : a
 
   kept : (i : ℕ) → i < 32 → ¬ (i ≡ a) → bit (withoutBit rest a) i ≡ bit rest i
   kept = apart.kept rest a fits more low
-
-  -- a count of each activity: what is counted and what is left come to the same
-  pub tally-next : (l : List ℕ) → length l ≡ 32 → (i : ℕ) → i < 32
-      → getD (set l a (getD l a 0 + 1)) i 0 + cond (bit (withoutBit rest a) i) 1 0 ≡ getD l i 0 + cond (bit rest i) 1 0
-  tally-next l sized i less = elim (ℕ-discrete i a) [
-    | yes e ↦
-        subst (λ (j : ℕ). getD (set l a (getD l a 0 + 1)) j 0 + cond (bit (withoutBit rest a) j) 1 0 ≡ getD l j 0 + cond (bit rest j) 1 0)
-        (sym e)
-        (rw (getD-set-same l a (getD l a 0 + 1) 0 (omega (arith, lowest-lt)), gone, lowest-set) (omega arith))
-    | no ne ↦ ap₂ (λ (x : ℕ) (t : Bool). x + cond t 1 0) (getD-set-other l a i (getD l a 0 + 1) 0 ne) (kept i less ne)
-  ]
 
   -- some activity of the word has q: the lowest, or one of the others
   any-next : (q : ℕ → Bool) → any 32 (λ i. bit rest i && q i) ≡ (q a || any 32 (λ i. bit (withoutBit rest a) i && q i))
@@ -98,9 +82,6 @@ unfolding any
 none-left q = ap not (T-true (all 32 (λ i. not (bit 0 i && q i)))
     (T-all 32 (λ i. not (bit 0 i && q i)) .1 (λ i l. subst (λ (x : Bool). T (not (x && q i))) (sym (bit-zero i)) tt)))
 
-pub none-counted : (rest i : ℕ) → rest ≡ 0 → _≡_ {A = ℕ} (cond (bit rest i) 1 0) 0
-none-counted rest i e = rw (e, bit-zero i)
-
 -- nothing is left: the word is what was joined
 pub joined-whole : (all rest word : ℕ) (masks : ℕ → ℕ) → all < 2 ^ 32 → rest ≡ 0
     → ((b : ℕ) → (bit all b || any 32 (λ a. bit rest a && bit (masks a) b))
@@ -115,25 +96,3 @@ joined-whole all rest word masks fits e h =
     ∙ h b
     ∙ ap (λ (t : Bool). t || any 32 (λ a. bit word a && bit (masks a) b)) (bit-zero b)
     ∙ sym (bit-wordOf 32 _ b l))
-
-pub at-most-one : (t : Bool) → cond t 1 0 ≤ 1
-at-most-one true = omega arith
-at-most-one false = omega arith
-
--- counts of fewer than 65536 ticks are small, also where the table has no entry
-pub few-counted : (l : List ℕ) (t : ℕ) (active : ℕ → ℕ → Bool) → t < 65536 → length l ≡ 32
-    → ((i : ℕ) → i < 32 → getD l i 0 ≡ count t (λ v. active v i)) → (i : ℕ) → getD l i 0 < 65536
-few-counted l t active few sized h i =
-    elim (decLt i 32) [
-      | yes k ↦ omega (arith, h i k, count-le t (λ v. active v i))
-      | no k ↦ omega (arith, List·getD-eq-default l 0 {n = i} (omega arith))
-    ]
-
--- one tick more in every count
-pub tallied-next : (words : ℕ → ℕ) (t word : ℕ) (l l′ : List ℕ) → word ≡ words t
-    → ((i : ℕ) → i < 32 → getD l i 0 ≡ count t (λ v. bit (words v) i)) → Tallied word l l′
-    → (i : ℕ) → i < 32 → getD l′ i 0 ≡ count (t + 1) (λ v. bit (words v) i)
-tallied-next words t word l l′ e h tallied i less =
-    tallied .one-more i less
-    ∙ ap₂ (λ (x w : ℕ). x + cond (bit w i) 1 0) (h i less) e
-    ∙ sym (count-next t (λ v. bit (words v) i))

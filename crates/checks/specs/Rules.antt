@@ -10,13 +10,13 @@ use Rattle.schedule.specs.Bounded.{all, bit, wordOf, _⇒_}
 use Rattle.schedule.specs.Rule.{Rule}
 use Rattle.schedule.specs.Model.{Model}
 use Rattle.schedule.specs.Plan.{Plan, active}
-use Rattle.schedule.specs.Checks.{countOf, ruleOf, rulesOf, plainRules, strictRules}
+use Rattle.schedule.specs.Checks.{ruleOf, rulesOf, plainRules, strictRules}
 use Rattle.schedule.specs.Answers.{plainChecks, strictChecks}
 use Rattle.schedule.specs.Numbers.{ruleNumber}
 use Rattle.schedule.specs.declared.RuleRefusal.{RuleRefusal}
 use Rattle.checks.specs.declared.activity.ActivityRule.{ActivityRule}
 use Rattle.checks.specs.declared.activity.Following.{Following}
-use Rattle.checks.specs.Tables.{TableOf, finishOf, tickRule, loadRule, rankRule}
+use Rattle.checks.specs.Tables.{tickRule, loadRule, rankRule, Tabulated}
 
 abbrev pub activityName : ActivityRule → RuleRefusal
 activityName ActivityRule.Window = RuleRefusal.Window
@@ -39,14 +39,10 @@ unfoldable pub earlyFrom : ℕ → ℕ → ℕ → List ℕ → List ℕ → ℕ
 earlyFrom preceding start n ends delays =
     wordOf n (λ b. not (bit preceding b ⇒ leb (getD ends b 0 + getD delays b 0) start))
 
--- what the rules of activities need: those active outside their window, and tables
-pub record Counted (m : Model) (p : Plan) (outside : ℕ) (counts finishes ends delays : List ℕ) : Type 0 where
-  pub few : m .activities ≤ 32
+-- what the rules of activities need: the tables, and those active outside their window
+pub record Counted (m : Model) (p : Plan) (outside : ℕ) (tables : List (List ℕ)) : Type 0 where
+  pub tabulated : Tabulated m p tables
   pub strays : (a : ℕ) → a < m .activities → bit outside a ≡ not (noneOutside m p a)
-  pub count-ticks : TableOf m counts (countOf m p)
-  pub finish-ticks : TableOf m finishes (finishOf m p)
-  pub end-ticks : TableOf m ends (p .end)
-  pub delay-ticks : TableOf m delays (m .delay)
 
 -- the rules of activities in the order in which the code tries them
 abbrev pub activityOrder : List ActivityRule

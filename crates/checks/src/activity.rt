@@ -1,9 +1,13 @@
 // Rules 21 to 27, activity by activity.
+use crate::page::COUNTS;
+use crate::page::DELAYS;
+use crate::page::ENDS;
+use crate::page::FINISHES;
+use crate::page::Tables;
+use crate::page::at;
+use crate::page::thread_of;
 use crate::refused;
-use crate::tables::at;
-use crate::tables::end_of;
-use crate::tables::start_of;
-use crate::tables::thread_of;
+use numbers::less;
 use records::Pass;
 use records::model::Activity;
 use schedule::RuleRefusal;
@@ -21,7 +25,8 @@ ghost use Rattle.schedule.specs.Plan.{plan, planTiming};
 ghost use Rattle.schedule.specs.Checks.{window};
 ghost use Rattle.records.specs.Reads.{passNumbers};
 ghost use Rattle.checks.specs.Tables.{brokenMask};
-ghost use Rattle.checks.specs.Rules.{activityName, activityRule, activityOrder, behind, firstOf, earlyFrom, noneOutside, Counted};
+ghost use Rattle.checks.specs.Rules.{activityName, activityRule, activityOrder, behind, firstOf};
+ghost use Rattle.checks.specs.Rules.{earlyFrom, noneOutside, Counted};
 
 // The rules that are tried at activities.
 pub(crate) enum ActivityRule {
@@ -91,7 +96,8 @@ fn deadline_holds(s: &[u8], r: &[u8], a: Activity) -> bool
         ≡ inTime (model (now (s .entry))) (planTiming (plan (now (r .entry)))) (plan (now (r .entry)) .end) (a .0) ⌝ }
 {
     let row = records::plan::thread_row(r, thread_of(s, a));
-    on_time(row.period as u32, end_of(r, a))
+    let span = records::plan::activity_row(r, a);
+    on_time(row.period as u32, span.end as u32)
 }
 
 // Whether a start comes before a predecessor's end and delay.
@@ -133,52 +139,40 @@ fn flag(holds: bool) -> u32
     if holds { 0 } else { 1 }
 }
 
-// 24 at an activity: "end − start ≥ count".
-fn span_holds(start: u32, count: u32, limit: u32) -> bool
-    requires { ⌜ start < 65536 ⌝ }
-    requires { ⌜ count < 65536 ⌝ }
-    ensures { λ r. ⌜ r ≡ leb (start + count) limit ⌝ }
-{
-    start + count <= limit
-}
-
-// 27 at an activity, "start ≥ efe", with the count on both sides: the table has efe + count.
-fn eligible_holds(start: u32, count: u32, finish: u32) -> bool
-    requires { ⌜ start < 65536 ⌝ }
-    requires { ⌜ count < 65536 ⌝ }
-    ensures { λ r. ⌜ r ≡ leb finish (start + count) ⌝ }
-{
-    finish <= start + count
-}
-
 // The places at which a rule is broken at activity a: the predecessors B for 25 and 26, bit 0 for the others.
 fn breaking(
     rule: ActivityRule,
     s: &[u8],
     r: &[u8],
     outside: u32,
-    counts: &[u32; 32],
-    finishes: &[u32; 32],
-    ends: &[u32; 32],
-    delays: &[u32; 32],
+    tables: &Tables,
     a: Activity,
 ) -> u32
-    requires { ⌜ Counted (model (now s)) (plan (now r)) outside (now counts) (now finishes) (now ends) (now delays) ⌝ }
+    requires { ⌜ Counted (model (now s)) (plan (now r)) outside (now tables) ⌝ }
     requires { ⌜ a .0 < model (now s) .activities ⌝ }
     ensures { λ x. ⌜ x ≡ brokenMask (activityRule rule (model (now (s .entry))) (plan (now (r .entry)))) (a .0) ⌝ }
 {
     let row = records::model::activity_row(s, a);
     let sizes = records::model::counts(s);
     let n = sizes.activities;
-    let start = start_of(r, a);
+    let span = records::plan::activity_row(r, a);
+    let start = span.start as u32;
     match rule {
         ActivityRule::Window => flag(window_holds(s, r, a, outside)),
-        ActivityRule::Count => flag(count_holds(s, a, at(counts, a))),
+        ActivityRule::Count => flag(count_holds(s, a, at(&tables[COUNTS], a))),
         ActivityRule::Deadline => flag(deadline_holds(s, r, a)),
-        ActivityRule::Span => flag(span_holds(start, at(counts, a), at(ends, a))),
-        ActivityRule::Temporal => early_mask(row.temporal_mask, start, n, ends, delays),
-        ActivityRule::Data => early_mask(row.data_mask, start, n, ends, &[0u32; 32]),
-        ActivityRule::Eligible => flag(eligible_holds(start, at(counts, a), at(finishes, a))),
+        ActivityRule::Span => flag(passed(start, at(&tables[COUNTS], a), at(&tables[ENDS], a))),
+        ActivityRule::Temporal => early_mask(
+            row.temporal_mask,
+            start,
+            n,
+            &tables[ENDS],
+            &tables[DELAYS],
+        ),
+        ActivityRule::Data => early_mask(row.data_mask, start, n, &tables[ENDS], &[0u32; 32]),
+        ActivityRule::Eligible => flag(
+            less(at(&tables[FINISHES], a), at(&tables[COUNTS], a)) <= start,
+        ),
     }
 }
 
@@ -218,12 +212,9 @@ pub(crate) fn over_activities(
     s: &[u8],
     r: &[u8],
     outside: u32,
-    counts: &[u32; 32],
-    finishes: &[u32; 32],
-    ends: &[u32; 32],
-    delays: &[u32; 32],
+    tables: &Tables,
 ) -> Pass
-    requires { ⌜ Counted (model (now s)) (plan (now r)) outside (now counts) (now finishes) (now ends) (now delays) ⌝ }
+    requires { ⌜ Counted (model (now s)) (plan (now r)) outside (now tables) ⌝ }
     ensures { λ x. ⌜ passNumbers x ≡ break (activityRule rule (model (now (s .entry))) (plan (now (r .entry)))) ⌝ }
 {
     let sizes = records::model::counts(s);
@@ -231,7 +222,7 @@ pub(crate) fn over_activities(
     let mut number: u8 = 0;
     while number < n {
         let a = Activity(number);
-        let b = bits::lowest(breaking(rule, s, r, outside, counts, finishes, ends, delays, a));
+        let b = bits::lowest(breaking(rule, s, r, outside, tables, a));
         if b < 32 {
             return refused(name(rule), number as u32, b);
         }

@@ -1,14 +1,19 @@
 // Rules 28 to 31, tick by tick, on whole words.
+use crate::page::ENDS;
+use crate::page::FROMS;
+use crate::page::Tables;
 use crate::refused;
 use crate::windows;
 use records::Pass;
 use schedule::RuleRefusal;
+use tables::ranking::Order;
 ghost use mathlib.Core.Path.{_≡_};
 ghost use mathlib.Core.Bool.{cond};
 ghost use lib.Bits.{bitAnd, bitOr};
 ghost use lib.Dec.{eqb, ltb};
 ghost use Rattle.schedule.specs.Bounded.{ones};
-ghost use Rattle.checks.specs.Tables.{outrankingOf, breakingOf, tickName, tickRule, loadRule, rankRule, Tabled};
+ghost use Rattle.checks.specs.Tables.{outrankingOf, breakingOf, tickName, tickRule, loadRule, rankRule, orderOf};
+ghost use Rattle.checks.specs.Tables.{Tabulated, Ranked};
 ghost use Rattle.schedule.specs.Rule.{break};
 ghost use Rattle.schedule.specs.Model.{model};
 ghost use Rattle.schedule.specs.Plan.{plan};
@@ -46,6 +51,13 @@ pub(crate) fn rank_rule(strict: bool) -> TickRule
     } else {
         TickRule::Preemption
     }
+}
+
+// In what sense that rule's waiting activity outranks an active one.
+pub(crate) fn order(strict: bool) -> Order
+    ensures { λ r. ⌜ r ≡ orderOf strict ⌝ }
+{
+    if strict { Order::Level } else { Order::Higher }
 }
 
 // Two words joined.
@@ -122,23 +134,22 @@ pub(crate) fn over_ticks(
     rule: TickRule,
     s: &[u8],
     r: &[u8],
-    froms: &[u32; 32],
-    ends: &[u32; 32],
+    tables: &Tables,
     masks: &[u32; 32],
 ) -> Pass
-    requires { ⌜ Tabled rule (model (now s)) (plan (now r)) (now froms) (now ends) (now masks) ⌝ }
+    requires { ⌜ Tabulated (model (now s)) (plan (now r)) (now tables) × Ranked rule (model (now s)) (now masks) ⌝ }
     ensures { λ x. ⌜ passNumbers x ≡ break (tickRule rule (model (now (s .entry))) (plan (now (r .entry)))) ⌝ }
 {
     let sizes = records::model::counts(s);
     let cores = sizes.cores as u32;
     let n = sizes.activities as usize;
     let horizon = sizes.horizon;
-    let mut waitable = windows::unknown();
+    let mut waitable = ticks::unknown();
     let mut t: u16 = 0;
     while t < horizon {
-        waitable = windows::at(waitable, n, froms, ends, t as u32);
+        waitable = windows::at(waitable, n, &tables[FROMS], &tables[ENDS], t as u32);
         let word = records::plan::word(r, t);
-        let b = bits::lowest(breaking(rule, word, cores, waitable.mask, masks));
+        let b = bits::lowest(breaking(rule, word, cores, waitable.word, masks));
         if b < 32 {
             return refused(name(rule), t as u32, b);
         }

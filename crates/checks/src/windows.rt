@@ -1,7 +1,9 @@
 // Which activities have their window open at a tick: from one tick on, before another. The set changes at those ticks
 // only, so it is kept from one change to the next.
-use crate::tables::Column;
-use crate::tables::tabulate;
+use crate::page::ENDS;
+use crate::page::Tables;
+use tables::columns::Column;
+use ticks::Kept;
 use ticks::sooner;
 ghost use mathlib.Core.Path.{_≡_};
 ghost use mathlib.Core.Bool.{_&&_, not};
@@ -11,22 +13,10 @@ ghost use lib.ListN.{getD};
 ghost use Rattle.schedule.specs.Bounded.{all, bit, _⇒_};
 ghost use Rattle.schedule.specs.Plan.{plan, active};
 ghost use Rattle.schedule.specs.Model.{model};
-ghost use Rattle.checks.specs.Tables.{TableOf};
+ghost use Rattle.ticks.specs.Kept.{Quiet, Stands};
+ghost use Rattle.checks.specs.Tables.{Tabulated};
 ghost use Rattle.checks.specs.Rules.{noneOutside};
-ghost use Rattle.checks.specs.Windows.{openOf, without, Quiet, Stands};
-
-// The open windows, and the tick before which none opens or closes.
-pub(crate) struct OpenSet {
-    pub(crate) mask: u32,
-    until: u32,
-}
-
-// No window is known yet.
-pub(crate) fn unknown() -> OpenSet
-    ensures { λ r. ⌜ r ≡ record { mask = 0; until = 0 } ⌝ }
-{
-    OpenSet { mask: 0, until: 0 }
-}
+ghost use Rattle.checks.specs.Windows.{openOf, without};
 
 // Whether a tick lies in a window.
 fn holds(from: u32, end: u32, t: u32) -> bool
@@ -56,7 +46,7 @@ fn opened(n: usize, froms: &[u32; 32], ends: &[u32; 32], t: u32) -> u32
 // The next tick after t at which a window opens or closes.
 fn next_change(n: usize, froms: &[u32; 32], ends: &[u32; 32], t: u32) -> u32
     requires { ⌜ n ≤ 32 ⌝ }
-    ensures { λ r. ⌜ Quiet n (now (froms .entry)) (now (ends .entry)) t r ⌝ }
+    ensures { λ r. ⌜ Quiet n (λ a. getD (now (froms .entry)) a 0) t r × Quiet n (λ a. getD (now (ends .entry)) a 0) t r ⌝ }
 {
     let mut next: u32 = 0xffff_ffff;
     let mut a = 0;
@@ -68,17 +58,17 @@ fn next_change(n: usize, froms: &[u32; 32], ends: &[u32; 32], t: u32) -> u32
     next
 }
 
-// The windows at tick t: those that are known, where they still stand.
-pub(crate) fn at(known: OpenSet, n: usize, froms: &[u32; 32], ends: &[u32; 32], t: u32) -> OpenSet
-    requires { ⌜ (n ≤ 32) × Stands n (now froms) (now ends) known t ⌝ }
-    ensures { λ r. ⌜ (r .mask ≡ openOf n (now (froms .entry)) (now (ends .entry)) t)
-        × Stands n (now (froms .entry)) (now (ends .entry)) r t ⌝ }
+// The windows at tick t, as a word: those that are known, where they still stand.
+pub(crate) fn at(known: Kept, n: usize, froms: &[u32; 32], ends: &[u32; 32], t: u32) -> Kept
+    requires { ⌜ (n ≤ 32) × Stands (openOf n (now froms) (now ends)) known t ⌝ }
+    ensures { λ r. ⌜ (r .word ≡ openOf n (now (froms .entry)) (now (ends .entry)) t)
+        × Stands (openOf n (now (froms .entry)) (now (ends .entry))) r t ⌝ }
 {
     if t < known.until {
         return known;
     }
-    OpenSet {
-        mask: opened(n, froms, ends, t),
+    Kept {
+        word: opened(n, froms, ends, t),
         until: next_change(n, froms, ends, t),
     }
 }
@@ -98,24 +88,29 @@ fn outside(r: &[u8], horizon: u16, n: usize, starts: &[u32; 32], ends: &[u32; 32
         ⇒ (leb (getD (now (starts .entry)) a 0) t && ltb t (getD (now (ends .entry)) a 0))))) ⌝ }
 {
     let mut strays: u32 = 0;
-    let mut windows = unknown();
+    let mut windows = ticks::unknown();
     let mut t: u16 = 0;
     while t < horizon {
         windows = at(windows, n, starts, ends, t as u32);
-        strays = strays | without(records::plan::word(r, t), windows.mask);
+        strays = strays | without(records::plan::word(r, t), windows.word);
         t += 1;
     }
     strays
 }
 
 // "none outside": the activities that break it.
-pub(crate) fn strays(s: &[u8], r: &[u8], ends: &[u32; 32]) -> u32
-    requires { ⌜ model (now s) .activities ≤ 32 ⌝ }
-    requires { ⌜ TableOf (model (now s)) (now ends) (plan (now r) .end) ⌝ }
+pub(crate) fn strays(s: &[u8], r: &[u8], tables: &Tables) -> u32
+    requires { ⌜ Tabulated (model (now s)) (plan (now r)) (now tables) ⌝ }
     ensures { λ x. ⌜ ((a : ℕ) → a < model (now (s .entry)) .activities
         → bit x a ≡ not (noneOutside (model (now (s .entry))) (plan (now (r .entry))) a)) ⌝ }
 {
     let sizes = records::model::counts(s);
-    let starts = tabulate(Column::Start, s, r);
-    outside(r, sizes.horizon, sizes.activities as usize, &starts, ends)
+    let starts = tables::columns::table(Column::Start, s, r);
+    outside(
+        r,
+        sizes.horizon,
+        sizes.activities as usize,
+        &starts,
+        &tables[ENDS],
+    )
 }

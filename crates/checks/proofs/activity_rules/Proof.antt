@@ -11,11 +11,11 @@ use Rattle.checks.proofs.activity_rules.Statement.{statement}
 use Rattle.checks.proofs.activity_rules.Tie as tie
 
 abbrev Inv-loop : tie.InvT-loop
-Inv-loop s r outside counts finishes ends delays following₀ following =
+Inv-loop s r outside tables following₀ following =
     firstBreak (untriedRules following (model s) (plan r)) ≡ firstBreak (activityRules (model s) (plan r))
 
 abbrev μ-loop : tie.MeasureT-loop
-μ-loop s r outside counts finishes ends delays following₀ following = length (untried following)
+μ-loop s r outside tables following₀ following = length (untried following)
 
 loop-holds : tie.Need-loop-holds Inv-loop μ-loop
 unfolding activityRules

@@ -50,25 +50,31 @@ enum-known-rules c = search needs
 returns-3 : tie.Need-returns-3
 unfolding answer
 returns-3 c =
-    let x = c .before .before .before .before .before .before .before .before .before .before .before .before .args in
+    let c3 = c .before .before .before in
+    let c6 = c3 .before .before .before in
+    let x = c6 .before .before .before .before .before .before .args in
     ap (λ (q : Pass). answer (passNumbers q) (figures (model (x .s .now)) (plan (x .r .now)))) (sym (c .before .rules .given .1))
-    ∙ rules-answer (x .strict) (x .s .now) (x .r .now) _ _ (c .before .before .before .before .before .before .before .enum-told .given .1) (c .before .before .before .before .before .before .before .before .before .read .ensures) _ (c .before .before .before .before .enum-told2 .given .1)
-    (c .before .before .before .before .before .before .read3 .ensures) (c .before .before .before .grid-rules .result) (c .before .before .before .grid-rules .ensures)
+    ∙ rules-answer (x .strict) (x .s .now) (x .r .now) _ _ (c6 .before .enum-told .given .1)
+    (c6 .before .before .before .read .ensures) _ (c3 .before .enum-told2 .given .1)
+    (c6 .read3 .ensures) (c3 .grid-rules .result) (c3 .grid-rules .ensures)
 
 enum-told-3 : tie.Need-enum-told-3
 enum-told-3 c = search needs
 
-figures-of-requires : tie.Need-figures-of-requires
-figures-of-requires c κs = search needs
+figures-requires : tie.Need-figures-requires
+figures-requires c κs = search needs
 
 returns-4 : tie.Need-returns-4
 unfolding answer
 returns-4 c =
-    let x = c .before .before .before .before .before .before .before .before .before .before .before .before .args in
-    ap accepted (c .figures-of .ensures)
+    let c3 = c .before .before .before in
+    let c6 = c3 .before .before .before in
+    let x = c6 .before .before .before .before .before .before .args in
+    ap accepted (c .figures .ensures)
     ∙ ap (λ (q : Pass). answer (passNumbers q) (figures (model (x .s .now)) (plan (x .r .now)))) (sym (c .before .enum-told3 .given .1))
-    ∙ rules-answer (x .strict) (x .s .now) (x .r .now) _ _ (c .before .before .before .before .before .before .before .enum-told .given .1) (c .before .before .before .before .before .before .before .before .before .read .ensures) _ (c .before .before .before .before .enum-told2 .given .1)
-    (c .before .before .before .before .before .before .read3 .ensures) (c .before .before .before .grid-rules .result) (c .before .before .before .grid-rules .ensures)
+    ∙ rules-answer (x .strict) (x .s .now) (x .r .now) _ _ (c6 .before .enum-told .given .1)
+    (c6 .before .before .before .read .ensures) _ (c3 .before .enum-told2 .given .1)
+    (c6 .read3 .ensures) (c3 .grid-rules .result) (c3 .grid-rules .ensures)
 
 pub check-spec : {M : Type 1} → statement M
 check-spec =
@@ -86,5 +92,5 @@ check-spec =
     enum-known-rules
     returns-3
     enum-told-3
-    figures-of-requires
+    figures-requires
     returns-4)

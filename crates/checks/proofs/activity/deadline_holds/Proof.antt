@@ -1,10 +1,12 @@
--- `checks::activity::deadline_holds` meets its contract: the thread's period and the activity's end. Assumes nothing.
-use mathlib.Core.Path.{ap, ap₂, _∙_}
+-- `checks::activity::deadline_holds` meets its contract: the thread's period and the activity's end.
+-- Assumes nothing.
 use Prim.Native.Nat.{ℕ}
-use Rattle.schedule.specs.Timing.{onTime, inTime}
+use mathlib.Core.Path.{ap, ap₂, _∙_}
 use Rattle.schedule.specs.Plan.{plan}
+use Rattle.schedule.specs.Timing.{onTime, inTime}
+use Rattle.records.specs.declared.plan.Span.{Span}
 use Rattle.records.specs.declared.plan.Timing.{Timing}
-use Rattle.records.specs.Rows.{timing}
+use Rattle.records.specs.Rows.{timing, spanOf}
 use borrow.Author.Needs.{needs}
 use Rattle.checks.proofs.activity.deadline_holds.Statement.{statement}
 use Rattle.checks.proofs.activity.deadline_holds.Tie as tie
@@ -15,24 +17,28 @@ thread-of-requires c κs = search needs
 thread-row-requires : tie.Need-thread-row-requires
 thread-row-requires c κs = search needs
 
+activity-row-requires : tie.Need-activity-row-requires
+activity-row-requires c κs = search needs
+
 cast-on-time : tie.Need-cast-on-time
 cast-on-time c = search needs
 
-end-of-requires : tie.Need-end-of-requires
-end-of-requires c κs = search needs
+cast-on-time-2 : tie.Need-cast-on-time-2
+cast-on-time-2 c = search needs
 
 on-time-requires : tie.Need-on-time-requires
 on-time-requires c κs = search needs
 
 returns : tie.Need-returns
-unfolding timing inTime
+unfolding timing spanOf inTime
 returns c =
-    let x = c .before .before .before .before .before .before .before .args in
+    let c4 = c .before .before .before .before in
+    let x = c4 .before .before .before .before .args in
     c .on-time .ensures
     ∙ ap₂ (λ (period end : ℕ). onTime period period end)
-    (ap (λ (y : Timing). y .period) (c .before .before .before .thread-row .ensures)
-    ∙ ap (λ j. plan (x .r .now) .period (j .0)) (c .before .before .before .before .thread-of .ensures))
-    (c .before .end-of .ensures)
+    (ap (λ (y : Timing). y .period) (c4 .thread-row .ensures)
+    ∙ ap (λ j. plan (x .r .now) .period (j .0)) (c4 .before .thread-of .ensures))
+    (ap (λ (y : Span). y .end) (c .before .before .before .activity-row .ensures))
 
 pub deadline-holds-spec : {M : Type 1} → statement M
 deadline-holds-spec =
@@ -40,7 +46,8 @@ deadline-holds-spec =
     (tie.spec
     thread-of-requires
     thread-row-requires
+    activity-row-requires
     cast-on-time
-    end-of-requires
+    cast-on-time-2
     on-time-requires
     returns)

@@ -17,12 +17,12 @@ use Rattle.checks.proofs.activity.over_activities.Statement.{statement}
 use Rattle.checks.proofs.activity.over_activities.Tie as tie
 
 abbrev Inv-loop : tie.InvT-loop
-Inv-loop rule s r outside counts finishes ends delays n a₀ a =
-    (a ≤ n) × (n ≡ model s .activities) × Counted (model s) (plan r) outside counts finishes ends delays
+Inv-loop rule s r outside tables n a₀ a =
+    (a ≤ n) × (n ≡ model s .activities) × Counted (model s) (plan r) outside tables
     × ClearTo (activityRule rule (model s) (plan r)) a
 
 abbrev μ-loop : tie.MeasureT-loop
-μ-loop rule s r outside counts finishes ends delays n a₀ a = n - a
+μ-loop rule s r outside tables n a₀ a = n - a
 
 counts-requires : tie.Need-counts-requires Inv-loop μ-loop
 counts-requires c κs = search needs
@@ -60,7 +60,7 @@ returns c =
     (ap ruleNumber (c .before .name .ensures) ∙ activity-number (x .rule) m p)
     ∙ sym (clear-stop (activityRule (x .rule) m p) (l .number) _ (l .inv .3)
     (omega (arith, activity-rows (x .rule) m p, l .inv .1, c5 .loop-test .taken))
-    (row-stops (activityRule (x .rule) m p) (l .number) _ _ (activity-columns (x .rule) m p (l .inv .2 .few))
+    (row-stops (activityRule (x .rule) m p) (l .number) _ _ (activity-columns (x .rule) m p (l .inv .2 .tabulated .few))
     (c .before .before .before .before .breaking .ensures)
     (c .before .before .before .lowest .ensures) (c .before .before .if1 .taken)))
 
@@ -81,7 +81,7 @@ loop-again c =
       l .inv .1,
       l .inv .2,
       clear-again (activityRule (x .rule) m p) (l .number) (l .inv .3)
-          (row-goes-on (activityRule (x .rule) m p) (l .number) _ _ (activity-columns (x .rule) m p (l .inv .2 .few))
+          (row-goes-on (activityRule (x .rule) m p) (l .number) _ _ (activity-columns (x .rule) m p (l .inv .2 .tabulated .few))
           (c .before .before .breaking .ensures)
           (c .before .lowest .ensures) (c .if1 .left)),
     )

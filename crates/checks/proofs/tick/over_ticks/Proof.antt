@@ -9,23 +9,24 @@ use Rattle.schedule.specs.Numbers.{ruleNumber}
 use Rattle.records.specs.declared.model.Sizes.{Sizes}
 use Rattle.records.specs.Rows.{sizesOf}
 use Rattle.laws.proofs.RowLaws.{ClearTo, clear-start, clear-again, clear-end, clear-stop}
-use Rattle.checks.specs.Tables.{tickRule, Tabled}
-use Rattle.checks.specs.Windows.{Stands}
+use Rattle.ticks.specs.Kept.{Stands}
+use Rattle.ticks.proofs.KeptLaws.{stands-unknown, stands-on}
+use Rattle.checks.specs.Tables.{ends, froms, tickRule, Tabulated, Ranked}
+use Rattle.checks.specs.Windows.{openOf}
 use Rattle.checks.proofs.TickLaws.{tick-read, tick-rows, tick-columns, tick-number}
-use Rattle.checks.proofs.WindowLaws.{unknown-stands, stands-on}
 use Rattle.checks.proofs.MaskRow.{row-stops, row-goes-on}
 use borrow.Author.Needs.{needs}
 use Rattle.checks.proofs.tick.over_ticks.Statement.{statement}
 use Rattle.checks.proofs.tick.over_ticks.Tie as tie
 
 abbrev Inv-loop : tie.InvT-loop
-Inv-loop rule s r froms ends masks cores n horizon waitable₀ t₀ waitable t =
+Inv-loop rule s r tables masks cores n horizon waitable₀ t₀ waitable t =
     (t ≤ horizon) × (horizon ≡ model s .horizon) × (n ≡ model s .activities) × (cores ≡ model s .cores)
-    × Tabled rule (model s) (plan r) froms ends masks × ClearTo (tickRule rule (model s) (plan r)) t
-    × Stands n froms ends waitable t
+    × Tabulated (model s) (plan r) tables × ClearTo (tickRule rule (model s) (plan r)) t
+    × Stands (openOf n (froms tables) (ends tables)) waitable t × Ranked rule (model s) masks
 
 abbrev μ-loop : tie.MeasureT-loop
-μ-loop rule s r froms ends masks cores n horizon waitable₀ t₀ waitable t = horizon - t
+μ-loop rule s r tables masks cores n horizon waitable₀ t₀ waitable t = horizon - t
 
 counts-requires : tie.Need-counts-requires Inv-loop μ-loop
 counts-requires c κs = search needs
@@ -47,16 +48,23 @@ loop-holds c =
       ap (λ (y : Sizes). y .horizon) e,
       ap (λ (y : Sizes). y .activities) e,
       ap (λ (y : Sizes). y .cores) e,
-      c .before .before .before .before .before .before .pre,
+      c .before .before .before .before .before .before .pre .0,
       clear-start _,
-      unknown-stands _ _ _ _ _ (c .unknown .ensures),
+      stands-unknown _ _ _ (c .unknown .ensures),
+      c .before .before .before .before .before .before .pre .1,
     )
+
+index-1-at : tie.Need-index-1-at Inv-loop μ-loop
+index-1-at c = search needs
+
+index-1-at-2 : tie.Need-index-1-at-2 Inv-loop μ-loop
+index-1-at-2 c = search needs
 
 cast-at : tie.Need-cast-at Inv-loop μ-loop
 cast-at c = search needs
 
 at-requires : tie.Need-at-requires Inv-loop μ-loop
-at-requires c κs = let l = c .before .loop in (omega (arith, l .inv .2, l .inv .4 .few), l .inv .6)
+at-requires c κs = let l = c .before .before .before .loop in (omega (arith, l .inv .2, l .inv .4 .few), l .inv .6)
 
 word-requires : tie.Need-word-requires Inv-loop μ-loop
 word-requires c κs = search needs
@@ -78,19 +86,22 @@ refused-requires c κs = search needs
 
 returns : tie.Need-returns Inv-loop μ-loop
 returns c =
-    let l = c .before .before .before .before .before .before .before .before .loop in
-    let x = c .before .before .before .before .before .before .before .before .before .before .before .before .before .before .before .args in
+    let c4 = c .before .before .before .before in
+    let c6 = c4 .before .before in
+    let c9 = c6 .before .before .before in
+    let l = c9 .before .loop in
+    let x = c9 .before .before .before .before .before .before .before .before .args in
     let m = model (x .s .now) in
     let p = plan (x .r .now) in
     let mask =
-    tick-read (x .rule) m p (x .froms .now) (x .ends .now) (x .masks .now) (l .inv .4) (l .t) _ _ _ _ _
-    (c .before .before .before .before .breaking .ensures) (c .before .before .before .before .before .word .ensures) (l .inv .3) (c .before .before .before .before .before .before .at .ensures .0) (l .inv .2) in
+    tick-read (x .rule) m p (x .tables .now) (x .masks .now) (l .inv .4) (l .inv .7) (l .t) _ _ _ _ _
+    (c4 .breaking .ensures) (c4 .before .word .ensures) (l .inv .3) (c6 .at .ensures .0) (l .inv .2) in
     let few = tick-columns (x .rule) m p (l .inv .4 .few) in
     c .refused .ensures
     ∙ ap (λ (k : ℕ). some (record { number = k; A = l .t; B = c .before .before .before .lowest .result }))
     (ap ruleNumber (c .before .name .ensures) ∙ tick-number (x .rule) m p)
     ∙ sym (clear-stop (tickRule (x .rule) m p) (l .t) _ (l .inv .5)
-    (omega (arith, tick-rows (x .rule) m p, l .inv .1, c .before .before .before .before .before .before .before .loop-test .taken))
+    (omega (arith, tick-rows (x .rule) m p, l .inv .1, c9 .loop-test .taken))
     (row-stops (tickRule (x .rule) m p) (l .t) _ _ few mask (c .before .before .before .lowest .ensures) (c .before .before .if1 .taken)))
 
 add-t : tie.Need-add-t Inv-loop μ-loop
@@ -101,13 +112,15 @@ loop-less c = omega arith
 
 loop-again : tie.Need-loop-again Inv-loop μ-loop
 loop-again c =
-    let l = c .before .before .before .before .before .before .loop in
-    let x = c .before .before .before .before .before .before .before .before .before .before .before .before .before .args in
+    let c4 = c .before .before .before .before in
+    let c8 = c4 .before .before .before .before in
+    let l = c8 .loop in
+    let x = c8 .before .before .before .before .before .before .before .args in
     let m = model (x .s .now) in
     let p = plan (x .r .now) in
     let mask =
-    tick-read (x .rule) m p (x .froms .now) (x .ends .now) (x .masks .now) (l .inv .4) (l .t) _ _ _ _ _
-    (c .before .before .breaking .ensures) (c .before .before .before .word .ensures) (l .inv .3) (c .before .before .before .before .at .ensures .0) (l .inv .2) in
+    tick-read (x .rule) m p (x .tables .now) (x .masks .now) (l .inv .4) (l .inv .7) (l .t) _ _ _ _ _
+    (c .before .before .breaking .ensures) (c .before .before .before .word .ensures) (l .inv .3) (c4 .at .ensures .0) (l .inv .2) in
     let few = tick-columns (x .rule) m p (l .inv .4 .few) in (
       omega arith,
       l .inv .1,
@@ -116,7 +129,8 @@ loop-again c =
       l .inv .4,
       clear-again (tickRule (x .rule) m p) (l .t) (l .inv .5)
           (row-goes-on (tickRule (x .rule) m p) (l .t) _ _ few mask (c .before .lowest .ensures) (c .if1 .left)),
-      stands-on _ _ _ _ _ (c .before .before .before .before .at .ensures .1),
+      stands-on _ _ _ (c4 .at .ensures .1),
+      l .inv .7,
     )
 
 returns-2 : tie.Need-returns-2 Inv-loop μ-loop
@@ -138,6 +152,8 @@ over-ticks-spec =
     cast-n
     unknown-requires
     loop-holds
+    index-1-at
+    index-1-at-2
     cast-at
     at-requires
     word-requires

@@ -2,20 +2,21 @@
 use native.Mathlib.Omega.{arith}
 use Prim.Native.Nat.{_≤_, _-_}
 use mathlib.Core.Path.{_≡_}
-use Rattle.checks.specs.Windows.{Quiet}
-use Rattle.checks.proofs.WindowLaws.{quiet-start, quiet-next}
+use lib.ListN.{getD}
+use Rattle.ticks.specs.Kept.{Quiet}
+use Rattle.ticks.proofs.KeptLaws.{quiet-start, quiet-next, quiet-sooner}
 use borrow.Author.Needs.{needs}
 use Rattle.checks.proofs.windows.next_change.Statement.{statement}
 use Rattle.checks.proofs.windows.next_change.Tie as tie
 
 abbrev Inv-loop : tie.InvT-loop
-Inv-loop n froms ends t next₀ a₀ next a = (a ≤ n) × Quiet a froms ends t next
+Inv-loop n froms ends t next₀ a₀ next a = (a ≤ n) × Quiet a (λ i. getD froms i 0) t next × Quiet a (λ i. getD ends i 0) t next
 
 abbrev μ-loop : tie.MeasureT-loop
 μ-loop n froms ends t next₀ a₀ next a = n - a
 
 loop-holds : tie.Need-loop-holds Inv-loop μ-loop
-loop-holds c = (omega arith, quiet-start _ _ _ _)
+loop-holds c = (omega arith, quiet-start _ _ _, quiet-start _ _ _)
 
 mul-sooner : tie.Need-mul-sooner Inv-loop μ-loop
 mul-sooner c = omega arith
@@ -45,14 +46,15 @@ loop-again : tie.Need-loop-again Inv-loop μ-loop
 loop-again c =
     let l = c .before .before .before .before .before .loop in (
       omega arith,
-      quiet-next (l .a) _ _ _ (l .next) _ _ (c .before .before .sooner .ensures) (c .sooner2 .ensures) (l .inv .1),
+      quiet-sooner _ _ _ _ _ _ (c .sooner2 .ensures) (quiet-next (l .a) _ _ _ _ (c .before .before .sooner .ensures) (l .inv .1)),
+      quiet-next (l .a) _ _ _ _ (c .sooner2 .ensures) (quiet-sooner _ _ _ _ _ _ (c .before .before .sooner .ensures) (l .inv .2)),
     )
 
 returns : tie.Need-returns Inv-loop μ-loop
 returns c =
     let l = c .before .loop in
     let whole : l .a ≡ c .before .before .args .n = omega arith in
-    rw whole at (l .inv .1)
+    (rw whole at (l .inv .1), rw whole at (l .inv .2))
 
 pub next-change-spec : {M : Type 1} → statement M
 next-change-spec =

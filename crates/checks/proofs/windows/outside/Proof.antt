@@ -8,15 +8,17 @@ use lib.Dec.{leb, ltb}
 use lib.ListN.{getD}
 use Rattle.schedule.specs.Bounded.{all, bit, _⇒_}
 use Rattle.schedule.specs.Plan.{plan, active}
-use Rattle.checks.specs.Windows.{Stands, without}
-use Rattle.checks.proofs.WindowLaws.{unknown-stands, stands-on, stray-start, stray-next}
+use Rattle.ticks.specs.Kept.{Stands}
+use Rattle.ticks.proofs.KeptLaws.{stands-unknown, stands-on}
+use Rattle.checks.specs.Windows.{openOf, without}
+use Rattle.checks.proofs.WindowLaws.{stray-start, stray-next}
 use borrow.Author.Needs.{needs}
 use Rattle.checks.proofs.windows.outside.Statement.{statement}
 use Rattle.checks.proofs.windows.outside.Tie as tie
 
 abbrev Inv-loop : tie.InvT-loop
 Inv-loop r horizon n starts ends strays₀ windows₀ t₀ strays windows t =
-    (t ≤ horizon) × Stands n starts ends windows t
+    (t ≤ horizon) × Stands (openOf n starts ends) windows t
     × ((a : ℕ) → a < n → bit strays a
     ≡ not (all t (λ v. active (plan r) v a ⇒ (leb (getD starts a 0) v && ltb v (getD ends a 0)))))
 
@@ -27,7 +29,7 @@ unknown-requires : tie.Need-unknown-requires Inv-loop μ-loop
 unknown-requires c κs = search needs
 
 loop-holds : tie.Need-loop-holds Inv-loop μ-loop
-loop-holds c = (omega arith, unknown-stands _ _ _ _ _ (c .unknown .ensures), λ a l. stray-start a _)
+loop-holds c = (omega arith, stands-unknown _ _ _ (c .unknown .ensures), λ a l. stray-start a _)
 
 cast-at : tie.Need-cast-at Inv-loop μ-loop
 cast-at c = search needs
@@ -54,9 +56,9 @@ loop-again c =
     let l = c .before .before .before .before .loop in
     let x = c .before .before .before .before .before .before .before .args in (
       omega arith,
-      stands-on _ _ _ _ _ (c .before .before .at .ensures .1),
+      stands-on _ _ _ (c .before .before .at .ensures .1),
       λ a h. ap (λ (w : ℕ). bit (bitOr (l .strays) w) a)
-          (c .without .ensures ∙ ap (λ (w : ℕ). without w (c .before .before .at .result .mask)) (c .before .word .ensures))
+          (c .without .ensures ∙ ap (λ (w : ℕ). without w (c .before .before .at .result .word)) (c .before .word .ensures))
           ∙ stray-next (x .n) (x .starts .now) (x .ends .now) (λ v. plan (x .r .now) .word v) (l .t) _ _
           (c .before .before .before .before .before .before .before .pre) (c .before .before .at .ensures .0) a h (l .inv .2 a h),
     )

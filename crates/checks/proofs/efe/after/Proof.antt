@@ -1,4 +1,4 @@
--- `checks::tables::after` meets its contract: `latest` is the latest over the predecessors passed. Assumes nothing.
+-- `checks::efe::after` meets its contract: `latest` is the latest over the predecessors passed. Assumes nothing.
 use native.Mathlib.Omega.{arith}
 use Prim.Native.Nat.{ℕ, _+_, _≤_, _-_, max}
 use mathlib.Core.Bool.{cond}
@@ -10,10 +10,11 @@ use Rattle.records.specs.declared.model.ActivityRow.{ActivityRow}
 use Rattle.records.specs.Rows.{activityRowOf}
 use Rattle.laws.proofs.Steps.{greatest-next, greatest-start}
 use Rattle.checks.specs.Tables as tables
-use Rattle.checks.proofs.EfeTable.{delay-lt, term-reads}
+use Rattle.laws.proofs.Ranges.{delay-lt}
+use Rattle.checks.proofs.EfeTable.{term-reads}
 use borrow.Author.Needs.{needs}
-use Rattle.checks.proofs.tables.after.Statement.{statement}
-use Rattle.checks.proofs.tables.after.Tie as tie
+use Rattle.checks.proofs.efe.after.Statement.{statement}
+use Rattle.checks.proofs.efe.after.Tie as tie
 
 abbrev Inv-loop : tie.InvT-loop
 Inv-loop s n delays done temporal by-data latest₀ b₀ latest b =

@@ -1,4 +1,4 @@
--- `checks::tables::finishes` meets its contract: the table is right at the activities passed, and small. Assumes nothing.
+-- `checks::efe::finishes` meets its contract: the table is right at the activities passed, and small. Assumes nothing.
 use Prim.Native.Nat.{ℕ, _+_, _*_, _≤_, _<_, _-_}
 use native.Mathlib.Omega.{arith}
 use mathlib.Core.Path.{_≡_, refl, ap, _∙_}
@@ -9,11 +9,12 @@ use Rattle.schedule.specs.Plan.{plan}
 use Rattle.records.specs.declared.model.Sizes.{Sizes}
 use Rattle.records.specs.Rows.{sizesOf}
 use Rattle.checks.specs.Tables.{finishOf}
+use Rattle.laws.proofs.Ranges.{delay-lt, release-lt, horizon-lt}
 use Rattle.laws.proofs.Steps.{table-next, zeros-at}
-use Rattle.checks.proofs.EfeTable.{finish-next, finish-bound, set-bound, delay-lt, release-lt, horizon-lt}
+use Rattle.checks.proofs.EfeTable.{finish-next, finish-bound, set-bound}
 use borrow.Author.Needs.{needs}
-use Rattle.checks.proofs.tables.finishes.Statement.{statement}
-use Rattle.checks.proofs.tables.finishes.Tie as tie
+use Rattle.checks.proofs.efe.finishes.Statement.{statement}
+use Rattle.checks.proofs.efe.finishes.Tie as tie
 
 abbrev Inv-loop : tie.InvT-loop
 Inv-loop s r counts delays n table₀ a₀ table a =

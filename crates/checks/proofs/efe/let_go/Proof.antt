@@ -1,9 +1,9 @@
--- `checks::tables::let_go` meets its contract, by its cases. Assumes nothing.
+-- `checks::efe::let_go` meets its contract, by its cases. Assumes nothing.
 use mathlib.Core.Bool.{true, false}
 use Rattle.checks.proofs.EfeTable.{term-temporal, term-other}
 use borrow.Author.Needs.{needs}
-use Rattle.checks.proofs.tables.let_go.Statement.{statement}
-use Rattle.checks.proofs.tables.let_go.Tie as tie
+use Rattle.checks.proofs.efe.let_go.Statement.{statement}
+use Rattle.checks.proofs.efe.let_go.Tie as tie
 
 add-result : tie.Need-add-result
 add-result c = search needs

@@ -1,12 +1,12 @@
--- `checks::tables::earliest` meets its contract: the larger of the release and what the predecessors let go. Assumes nothing.
+-- `checks::efe::earliest` meets its contract: the larger of the release and what the predecessors let go. Assumes nothing.
 use Prim.Native.Nat.{max}
 use mathlib.Core.Path.{ap, ap₂, _∙_}
 use Rattle.schedule.specs.Plan.{plan}
 use Rattle.records.specs.declared.plan.Timing.{Timing}
 use Rattle.records.specs.Rows.{timing}
 use borrow.Author.Needs.{needs}
-use Rattle.checks.proofs.tables.earliest.Statement.{statement}
-use Rattle.checks.proofs.tables.earliest.Tie as tie
+use Rattle.checks.proofs.efe.earliest.Statement.{statement}
+use Rattle.checks.proofs.efe.earliest.Tie as tie
 
 thread-of-requires : tie.Need-thread-of-requires
 thread-of-requires c κs = search needs

@@ -1,9 +1,9 @@
--- `checks::tables::thread_of` meets its contract: the row is that of the definition. Assumes nothing.
+-- `checks::page::thread_of` meets its contract: the row is that of the definition. Assumes nothing.
 use mathlib.Core.Path.{ap}
 use Rattle.records.specs.Rows.{activityRowOf}
 use borrow.Author.Needs.{needs}
-use Rattle.checks.proofs.tables.thread_of.Statement.{statement}
-use Rattle.checks.proofs.tables.thread_of.Tie as tie
+use Rattle.checks.proofs.page.thread_of.Statement.{statement}
+use Rattle.checks.proofs.page.thread_of.Tie as tie
 
 activity-row-requires : tie.Need-activity-row-requires
 activity-row-requires c κs = search needs
