@@ -7,28 +7,16 @@ use mathlib.Core.List.{List}
 use Rattle.schedule.specs.declared.FormRefusal.{FormRefusal}
 use Rattle.schedule.specs.Fields.{Bytes}
 use Rattle.schedule.specs.Rule.{AllHold}
-use Rattle.schedule.specs.Model.{
-  Model,
-  model,
-  lengthRule,
-  versionRule,
-  formulaRule,
-  limitsRule,
-  threadRule,
-  activityRule,
-  maskRule,
-  modelForm,
-  Within,
-  Formed,
-}
-use Rattle.schedule.specs.Choice.{Choice, choice, choiceThreadRow, choiceCounts, rangeRule, durationRule, choiceForm}
+use Rattle.schedule.specs.Model.{Model, model, modelForm, Within, Formed}
+use Rattle.schedule.specs.Choice.{Choice, choice, choiceThreadRow, choiceForm}
 use Rattle.schedule.specs.Numbers.{formNumber}
 use Rattle.laws.proofs.FieldLaws.{field-lt}
 use Rattle.laws.proofs.FirstBreak.{says}
+use Rattle.laws.proofs.Opened.{form-rules}
 
 -- rules 3, 6 and 7
 pub model-says : (s : List ℕ) → AllHold (modelForm s) → Formed (model s)
-unfolding modelForm lengthRule versionRule limitsRule formulaRule threadRule activityRule maskRule
+unfolding modelForm form-rules
 model-says s h =
     let limits = says (formNumber FormRefusal.ModelLimits) (modelForm s) h 0 0 (omega arith) (omega arith) in
     let rows = says (formNumber FormRefusal.ActivityRow) (modelForm s) h in
@@ -61,7 +49,7 @@ pub record Chosen (m : Model) (q : Choice) : Type 0 where
   pub period-lt : (j : ℕ) → q .period j < 65536
 
 pub choice-says : (m : Model) (q : List ℕ) → Bytes q → AllHold (choiceForm m q) → Chosen m (choice q)
-unfolding choiceForm lengthRule versionRule choiceCounts formulaRule rangeRule durationRule choice
+unfolding choiceForm form-rules choice
 choice-says m q b h = record {
   in-range = λ j l. says (formNumber FormRefusal.ThreadChoice) (choiceForm m q) h j 0 l (omega arith);
   duration = λ a l. says (formNumber FormRefusal.DurationChoice) (choiceForm m q) h a 0 l (omega arith);

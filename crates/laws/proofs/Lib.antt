@@ -10,6 +10,7 @@ pub mod Ranges
 pub mod Parts
 pub mod PlanBytes
 pub mod PlanForm
+pub mod Opened
 pub mod FirstBreak
 pub mod Deadlines
 pub mod Sound

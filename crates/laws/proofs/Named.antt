@@ -8,26 +8,12 @@ use lib.Dec.{T, eqb, eqb→eq}
 use Rattle.schedule.specs.declared.RuleRefusal.{RuleRefusal}
 use Rattle.schedule.specs.Rule.{Rule, Everywhere, AllHold}
 use Rattle.schedule.specs.Model.{Model}
-use Rattle.schedule.specs.Timing.{deadlineRule}
 use Rattle.schedule.specs.Plan.{Plan}
-use Rattle.schedule.specs.Checks.{
-  ruleOf,
-  rulesOf,
-  rule21,
-  rule22,
-  rule23,
-  rule24,
-  rule25,
-  rule26,
-  rule27,
-  rule28,
-  rule29,
-  rule30,
-  rule31,
-}
+use Rattle.schedule.specs.Checks.{ruleOf, rulesOf}
 use Rattle.schedule.specs.Numbers.{ruleNumber}
 use Rattle.laws.proofs.Tests.{T-or, T-eqb}
 use Rattle.laws.proofs.NumbersLaws.{rule-injective}
+use Rattle.laws.proofs.Opened.{check-rules}
 
 -- a name stands in an order
 abbrev pub among : RuleRefusal → List RuleRefusal → Bool
@@ -81,7 +67,7 @@ module _ (m : Model) (p : Plan) where
 
   -- a rule has its name's number
   pub rule-number : (name : RuleRefusal) → ruleNumber name ≡ ruleOf name m p .number
-  unfolding rule21 rule22 rule23 rule24 rule25 rule26 rule27 rule28 rule29 rule30 rule31 deadlineRule
+  unfolding check-rules
   rule-number RuleRefusal.Window = refl
   rule-number RuleRefusal.Count = refl
   rule-number RuleRefusal.Deadline = refl

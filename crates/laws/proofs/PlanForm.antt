@@ -12,12 +12,11 @@ use lib.Seq.{ext-getD}
 use Rattle.schedule.specs.declared.FormRefusal.{FormRefusal}
 use Rattle.schedule.specs.Fields.{field, pairRow, Bytes}
 use Rattle.schedule.specs.Rule.{AllHold}
-use Rattle.schedule.specs.Model.{Model, lengthRule, versionRule, formulaRule, Within}
-use Rattle.schedule.specs.Choice.{rangeRule}
-use Rattle.schedule.specs.Plan.{Plan, plan, active, planBytes, planForm, planCounts, wordRule}
-use Rattle.schedule.specs.Plan.{planThreadRow, gridAt, tickAt, planLength}
+use Rattle.schedule.specs.Model.{Model, Within}
+use Rattle.schedule.specs.Plan.{Plan, plan, active, planBytes, planForm, planThreadRow, gridAt, tickAt, planLength}
 use Rattle.schedule.specs.Numbers.{formNumber}
 use Rattle.laws.proofs.FirstBreak.{says}
+use Rattle.laws.proofs.Opened.{form-rules}
 use Rattle.laws.proofs.Parts.{Alike, alike-join, alike-field, alike-rows}
 use Rattle.laws.proofs.PlanBytes.{Fits, ReadsBack, reads-back, length-planBytes}
 
@@ -42,7 +41,7 @@ pub record WellFormed (m : Model) (r : List ℕ) : Type 0 where
   pub words-within : WordsWithin m (plan r)
 
 pub form-says : (m : Model) (r : List ℕ) → AllHold (planForm m r) → WellFormed m r
-unfolding planForm lengthRule versionRule planCounts formulaRule rangeRule wordRule
+unfolding planForm form-rules
 form-says m r h =
     let sized = says (formNumber FormRefusal.SecondSize) (planForm m r) h 0 0 (omega arith) (omega arith) in
     let counts = says (formNumber FormRefusal.SecondCounts) (planForm m r) h 0 0 (omega arith) (omega arith) in
@@ -60,7 +59,7 @@ form-says m r h =
 
 -- and back
 pub well-formed : (m : Model) (r : List ℕ) → WellFormed m r → AllHold (planForm m r)
-unfolding planForm lengthRule versionRule planCounts formulaRule rangeRule wordRule
+unfolding planForm form-rules
 well-formed m r w = (
   λ _ _ _ _. (omega arith, w .stated ∙ sym (w .length)),
   (

@@ -6,47 +6,16 @@ use mathlib.Core.Logic.{_↔_, Iff·rfl}
 use lib.Dec.{T}
 use Rattle.schedule.specs.declared.RuleRefusal.{RuleRefusal}
 use Rattle.schedule.specs.Rule.{Rule}
-use Rattle.schedule.specs.Model.{
-  Model,
-  model,
-  lengthRule,
-  versionRule,
-  formulaRule,
-  limitsRule,
-  threadRule,
-  activityRule,
-  maskRule,
-  modelForm,
-}
+use Rattle.schedule.specs.Model.{Model, model, modelForm}
 use Rattle.schedule.specs.Timing.{deadlineRule}
-use Rattle.schedule.specs.Choice.{Choice, choiceCounts, rangeRule, durationRule, choiceForm}
-use Rattle.schedule.specs.Plan.{Plan, plan, planCounts, wordRule, planForm}
-use Rattle.schedule.specs.Checks.{
-  Window,
-  window,
-  Waiting,
-  waits,
-  ruleOf,
-  rulesOf,
-  plainOrder,
-  strictOrder,
-  plainRules,
-  strictRules,
-  rule21,
-  rule22,
-  rule23,
-  rule24,
-  rule25,
-  rule26,
-  rule27,
-  rule28,
-  rule29,
-  rule30,
-  rule31,
-}
+use Rattle.schedule.specs.Choice.{Choice, choiceForm}
+use Rattle.schedule.specs.Plan.{Plan, plan, planForm}
+use Rattle.schedule.specs.Checks.{Window, window, Waiting, waits}
+use Rattle.schedule.specs.Checks.{ruleOf, rulesOf, plainOrder, strictOrder, plainRules, strictRules}
 use Rattle.schedule.specs.Answers.{owedRule, runRules, plainChecks, strictChecks, runChecks}
 use Rattle.laws.proofs.Tests.{tests}
 use Rattle.laws.proofs.Deadlines.{in-time-sound}
+use Rattle.laws.proofs.Opened.{form-rules, check-rules}
 use Rattle.laws.proofs.FirstBreak.{Sound, AllSound, sound-append, _&_}
 
 -- the two statements that are records, by their parts
@@ -85,20 +54,20 @@ same P a b = Iff·rfl
 
 -- the lists of rules, each read as a whole
 pub modelForm-sound : (s : List ℕ) → AllSound (modelForm s)
-unfolding modelForm lengthRule versionRule limitsRule formulaRule threadRule activityRule maskRule
+unfolding modelForm form-rules
 modelForm-sound s = simp whole (same _ & same _ & same _ & same _ & same _ & same _ & same _ & tt)
 
 pub choiceForm-sound : (m : Model) (q : List ℕ) → AllSound (choiceForm m q)
-unfolding choiceForm lengthRule versionRule choiceCounts formulaRule rangeRule durationRule
+unfolding choiceForm form-rules
 choiceForm-sound m q = simp whole (same _ & same _ & same _ & same _ & same _ & same _ & tt)
 
 pub planForm-sound : (m : Model) (r : List ℕ) → AllSound (planForm m r)
-unfolding planForm lengthRule versionRule planCounts formulaRule rangeRule wordRule
+unfolding planForm form-rules
 planForm-sound m r = simp whole (same _ & same _ & same _ & same _ & same _ & same _ & tt)
 
 -- the rules of the checks by name, and those of an order
 rule-sound : (name : RuleRefusal) (m : Model) (p : Plan) → Sound (ruleOf name m p)
-unfolding rule21 rule22 rule23 deadlineRule rule24 rule25 rule26 rule27 rule28 rule29 rule30 rule31
+unfolding check-rules
 rule-sound RuleRefusal.Window m p = simp whole (same _)
 rule-sound RuleRefusal.Count m p = simp whole (same _)
 rule-sound RuleRefusal.Deadline m p = simp whole (same _)

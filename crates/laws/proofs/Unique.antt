@@ -16,7 +16,8 @@ use Rattle.schedule.specs.Plan.{Plan, active}
 use Rattle.schedule.specs.Machine.{State, owes, endOf, ready, machineWord, machineStart, machineEnd, machineOwes}
 use Rattle.schedule.specs.Checks.{countOf, efe, Waiting}
 use Rattle.schedule.specs.Keeps.{KeepsStrict}
-use Rattle.laws.proofs.Counting.{decT, T-false, weight, one-if, zero-if, count-suc, count-zero, count-some, count-grows, count-stops, count-between}
+use Rattle.laws.proofs.Counting.{decT, T-false, weight, one-if, zero-if}
+use Rattle.laws.proofs.Counting.{count-suc, count-zero, count-some, count-grows, count-stops, count-between}
 use Rattle.laws.proofs.Words.{bit-high, word-ext, ones-count}
 use Rattle.laws.proofs.Selection.{Before, Picked, picked-selected}
 use Rattle.laws.proofs.Lowest.{lowest-unique}

@@ -12,30 +12,10 @@ use Rattle.schedule.specs.Model.{Model, model, modelForm}
 use Rattle.schedule.specs.Choice.{Choice, choice}
 use Rattle.schedule.specs.Plan.{plan, planForm}
 use Rattle.schedule.specs.Checks.{rulesOf, plainOrder, furtherOrder, plainRules, strictRules}
-use Rattle.schedule.specs.Answers.{
-  Answer,
-  accepted,
-  refused,
-  answer,
-  figures,
-  plainChecks,
-  strictChecks,
-  plainVerdict,
-  strictVerdict,
-  runRules,
-  lengthNeeded,
-  written,
-  runChecks,
-  from-input,
-  from-buffer,
-  from-run,
-  succeeded,
-  concluded,
-  outcome,
-  runOutcome,
-  answerOf,
-  runAnswer,
-}
+use Rattle.schedule.specs.Answers.{Answer, accepted, refused, answer, figures}
+use Rattle.schedule.specs.Answers.{plainChecks, strictChecks, plainVerdict, strictVerdict}
+use Rattle.schedule.specs.Answers.{runRules, lengthNeeded, written, runChecks, answerOf, runAnswer}
+use Rattle.schedule.specs.Answers.{from-input, from-buffer, from-run, succeeded, concluded, outcome, runOutcome}
 use Rattle.laws.proofs.FirstBreak.{AllSound, none-iff, some-iff, append-none}
 use Rattle.laws.proofs.Named.{rulesOf-append}
 use Rattle.laws.proofs.Sound.{modelForm-sound, planForm-sound, runChecks-sound}
