@@ -319,8 +319,11 @@ pub mark-next : (n : ℕ) (p : ℕ → Bool) (yes? : Bool) → n < 32 → yes? �
     → cond yes? (withBit (wordOf n p) n) (wordOf n p) ≡ wordOf (n + 1) p
 unfolding withBit wordOf
 mark-next n p yes? h e =
-    let free : bit (wordOf n p) n ≡ false = T-false (bit (wordOf n p) n) (bit-high (wordOf n p) n n (wordOf-lt n p) (omega arith)) in
-    rw (add-one n) (subst (λ (b : Bool). cond yes? (withBit (wordOf n p) n) (wordOf n p) ≡ wordOf n p + cond b (2 ^ n) 0) e (told yes? free))
+    let free : bit (wordOf n p) n ≡ false =
+    T-false (bit (wordOf n p) n) (bit-high (wordOf n p) n n (wordOf-lt n p) (omega arith)) in
+    let next : Bool → Type 0 =
+    λ b. cond yes? (withBit (wordOf n p) n) (wordOf n p) ≡ wordOf n p + cond b (2 ^ n) 0 in
+    rw (add-one n) (subst next e (told yes? free))
   where
     told : (b : Bool) → bit (wordOf n p) n ≡ false
         → cond b (withBit (wordOf n p) n) (wordOf n p) ≡ wordOf n p + cond b (2 ^ n) 0

@@ -32,9 +32,11 @@ add-n c = search needs
 
 returns : tie.Need-returns
 returns c =
-    let x = c .before .before .before .before .before .before .before .before .args in
-    let first = c .before .before .before .before .before .before .verdict-said in
-    let second = c .before .before .before .before .before .verdict-said2 in
+    let at-second = c .before .before .before .before .before in
+    let at-first = at-second .before in
+    let x = at-first .before .before .args in
+    let first = at-first .verdict-said in
+    let second = at-second .verdict-said2 in
     let e = check-parts (verdictNumbers (x .plain)) (verdictNumbers (x .strict)) (first .ensures) (second .ensures) in
     printed-nothing (line plainName (first .result)) (line strictName (second .result)) (x .out .now) e (omega arith)
 
@@ -55,12 +57,17 @@ same-length c = search needs
 
 returns-2 : tie.Need-returns-2
 returns-2 c =
-    let x = c .before .before .before .before .before .before .before .before .before .before .before .before .before .before .before .before .before .before .args in
-    let first = c .before .before .before .before .before .before .before .before .before .before .before .before .before .before .before .before .verdict-said in
-    let second = c .before .before .before .before .before .before .before .before .before .before .before .before .before .before .before .verdict-said2 in
+    let at-strict-line = c .before .before in
+    let at-plain-line = at-strict-line .before .before .before .before .before in
+    let at-test = at-plain-line .before .before .before in
+    let at-second = at-test .before .before .before .before .before in
+    let at-first = at-second .before in
+    let x = at-first .before .before .args in
+    let first = at-first .verdict-said in
+    let second = at-second .verdict-said2 in
     let e = check-parts (verdictNumbers (x .plain)) (verdictNumbers (x .strict)) (first .ensures) (second .ensures) in
-    printed-whole e (c .before .before .before .before .before .before .before .put-line .ensures) (c .before .before .put-line2 .ensures)
-    (omega arith)
+    printed-whole e (at-plain-line .put-line .ensures) (at-strict-line .put-line2 .ensures)
+    (omega (arith, at-test .if1 .left, at-test .before .before .before .line-length .ensures, at-test .before .line-length2 .ensures))
 
 pub check-lines-spec : {M : Type 1} → statement M
 check-lines-spec =

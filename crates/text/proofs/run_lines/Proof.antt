@@ -31,38 +31,52 @@ add-n c = search needs
 
 returns : tie.Need-returns
 returns c =
-    let x = c .before .before .before .before .before .before .before .before .args in
-    let h = c .before .before .before .before .before .ticks in
-    let said = c .before .before .before .before .run-said in
+    let at-said = c .before .before .before .before in
+    let at-ticks = at-said .before in
+    let x = at-ticks .before .before .before .args in
+    let h = at-ticks .ticks in
+    let said = at-said .run-said in
     let e = run-parts (runNumbers (x .answer)) (x .plan .now) (h .ensures .0) (said .ensures) in
     printed-nothing (chain (h .result) (tickText (x .plan .now))) (line runName (said .result)) (x .out .now) e
     (omega (arith, length-ticks (x .plan .now) (h .result)))
 
 put-ticks-requires : tie.Need-put-ticks-requires
 put-ticks-requires c κs =
-    let x = c .before .before .before .before .before .before .before .before .before .args in
-    omega (arith, length-ticks (x .plan .now) (c .before .before .before .before .before .before .ticks .result))
+    let at-ticks = c .before .before .before .before .before .before in
+    let x = at-ticks .before .before .before .args in
+    omega (arith, length-ticks (x .plan .now) (at-ticks .ticks .result))
 
 slice-aggregate-put-line : tie.Need-slice-aggregate-put-line
 slice-aggregate-put-line c = search needs
 
 put-line-requires : tie.Need-put-line-requires
 put-line-requires c κs =
-    let x = c .before .before .before .before .before .before .before .before .before .before .before .before .before .before .args in
-    let h = c .before .before .before .before .before .before .before .before .before .before .before .ticks in
-    omega (arith, length-ticks (x .plan .now) (h .result))
+    let at-ticks = c .before .before .before .before .before .before .before .before .before .before .before in
+    let x = at-ticks .before .before .before .args in
+    omega (arith, length-ticks (x .plan .now) (at-ticks .ticks .result))
 
 same-length : tie.Need-same-length
 same-length c = search needs
 
 returns-2 : tie.Need-returns-2
 returns-2 c =
-    let x = c .before .before .before .before .before .before .before .before .before .before .before .before .before .before .before .before .before .args in
-    let h = c .before .before .before .before .before .before .before .before .before .before .before .before .before .before .ticks in
-    let said = c .before .before .before .before .before .before .before .before .before .before .before .before .before .run-said in
+    let at-line = c .before .before in
+    let at-put = at-line .before .before .before .before .before in
+    let at-test = at-put .before .before in
+    let at-said = at-test .before .before .before .before in
+    let at-ticks = at-said .before in
+    let x = at-ticks .before .before .before .args in
+    let h = at-ticks .ticks in
+    let said = at-said .run-said in
     let e = run-parts (runNumbers (x .answer)) (x .plan .now) (h .ensures .0) (said .ensures) in
-    printed-whole e (c .before .before .before .before .before .before .before .put-ticks .ensures) (c .before .before .put-line .ensures)
-    (omega (arith, length-ticks (x .plan .now) (h .result)))
+    printed-whole e (at-put .put-ticks .ensures) (at-line .put-line .ensures)
+    (omega (
+      arith,
+      at-test .if1 .left,
+      at-test .before .line-length .ensures,
+      at-test .before .before .before .ticks-length .ensures,
+      length-ticks (x .plan .now) (h .result),
+    ))
 
 pub run-lines-spec : {M : Type 1} → statement M
 run-lines-spec =
