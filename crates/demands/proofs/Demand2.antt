@@ -15,53 +15,15 @@ use borrow.Author.Tests.{ne-eqb}
 use Rattle.schedule.specs.declared.RuleRefusal.{RuleRefusal}
 use Rattle.schedule.specs.Rule.{Refusal, firstBreak, Everywhere, AllHold, FirstBroken}
 use Rattle.schedule.specs.Model.{Model, model, modelForm}
-use Rattle.schedule.specs.Timing.{deadlineRule}
 use Rattle.schedule.specs.Choice.{choice, choiceForm}
 use Rattle.schedule.specs.Plan.{Plan, plan, planForm, planBytes}
-use Rattle.schedule.specs.Checks.{
-  ruleOf,
-  plainOrder,
-  furtherOrder,
-  strictOrder,
-  plainRules,
-  strictRules,
-  rule21,
-  rule22,
-  rule23,
-  rule24,
-  rule25,
-  rule26,
-  rule27,
-  rule28,
-  rule29,
-  rule30,
-  rule31,
-}
-use Rattle.schedule.specs.Answers.{
-  accepted,
-  refused,
-  Figures,
-  figures,
-  plainChecks,
-  strictChecks,
-  plainVerdict,
-  strictVerdict,
-  machinePlan,
-  runRules,
-  Written,
-  lengthNeeded,
-  written,
-  runChecks,
-  from-input,
-  from-buffer,
-  runOutcome,
-  answerOf,
-  runAnswer,
-  bufferAfter,
-  runBuffer,
-}
+use Rattle.schedule.specs.Checks.{ruleOf, plainOrder, furtherOrder, strictOrder, plainRules, strictRules}
+use Rattle.schedule.specs.Answers.{accepted, refused, Figures, figures, Written, written, lengthNeeded, machinePlan}
+use Rattle.schedule.specs.Answers.{plainChecks, strictChecks, plainVerdict, strictVerdict, runRules, runChecks}
+use Rattle.schedule.specs.Answers.{from-input, from-buffer, runOutcome, answerOf, runAnswer, bufferAfter, runBuffer}
 use Rattle.laws.proofs.FirstBreak.{none-iff, some-iff, append-some, hold-append, hold-or-broken}
 use Rattle.laws.proofs.Named.{among, among-front, named, all-named}
+use Rattle.laws.proofs.Opened.{check-rules}
 use Rattle.laws.proofs.Sound.{
   modelForm-sound,
   choiceForm-sound,
@@ -146,7 +108,7 @@ strict-breaks-rule s r x hm hp =
 -- What the rules of the plain check say by name is what Keeps writes out.
 says-plain : (m : Model) (p : Plan) → ((name : RuleRefusal) → T (among name plainOrder) → Everywhere (ruleOf name m p))
     → KeepsPlain m p
-unfolding rule21 rule22 rule23 rule24 rule25 rule26 rule27 rule28 rule29 deadlineRule
+unfolding check-rules
 says-plain m p says = record {
   window = λ a l. says RuleRefusal.Window tt a 0 l (omega arith);
   duration = λ a l. says RuleRefusal.Count tt a 0 l (omega arith);
@@ -161,9 +123,10 @@ says-plain m p says = record {
 
 -- And back, for an order with or without 30 and 31.
 keeps-named : (m : Model) (p : Plan) (names : List RuleRefusal) → KeepsPlain m p
-    → (T (among RuleRefusal.Idle names) → Everywhere (rule30 m p)) → (T (among RuleRefusal.Tie names) → Everywhere (rule31 m p))
+    → (T (among RuleRefusal.Idle names) → Everywhere (ruleOf RuleRefusal.Idle m p))
+    → (T (among RuleRefusal.Tie names) → Everywhere (ruleOf RuleRefusal.Tie m p))
     → (name : RuleRefusal) → T (among name names) → Everywhere (ruleOf name m p)
-unfolding rule21 rule22 rule23 rule24 rule25 rule26 rule27 rule28 rule29 deadlineRule
+unfolding check-rules
 keeps-named m p names k idle tie RuleRefusal.Window _ = λ a _ l _. k .window a l
 keeps-named m p names k idle tie RuleRefusal.Count _ = λ a _ l _. k .duration a l
 keeps-named m p names k idle tie RuleRefusal.Deadline _ = λ a _ l _. k .deadline a l
@@ -186,7 +149,7 @@ plain-keeps m p = (
 
 -- Rules 21 to 31 hold, as a list, exactly where the plan keeps them as crate schedule, Keeps, writes them out.
 pub strict-keeps : (m : Model) (p : Plan) → AllHold (strictRules m p) ↔ KeepsStrict m p
-unfolding strictRules rule30 rule31
+unfolding strictRules check-rules
 strict-keeps m p = (
   λ h.
       let says = named m p strictOrder h in

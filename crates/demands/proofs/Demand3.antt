@@ -19,7 +19,8 @@ use Rattle.schedule.specs.Choice.{choice, choiceTiming, choiceForm}
 use Rattle.schedule.specs.Plan.{plan, planTiming, planForm, planBytes}
 use Rattle.schedule.specs.Machine.{machineWord, machineStart, machineEnd, machineOwes}
 use Rattle.schedule.specs.Keeps.{KeepsStrict}
-use Rattle.schedule.specs.Answers.{accepted, Figures, figures, strictChecks, machinePlan, owedRule, runRules, Written, lengthNeeded, runChecks, runAnswer}
+use Rattle.schedule.specs.Answers.{accepted, Figures, figures, Written, lengthNeeded, machinePlan}
+use Rattle.schedule.specs.Answers.{strictChecks, owedRule, runRules, runChecks, runAnswer}
 use Rattle.schedule.specs.Numbers.{runNumber}
 use Rattle.laws.proofs.FieldLaws.{field-lt}
 use Rattle.laws.proofs.PlanBytes.{Fits, ReadsBack, reads-back, length-planBytes, bytes-planBytes}
@@ -100,8 +101,13 @@ module _ (s q : List ℕ) (q-bytes : Bytes q) (formed : AllHold (modelForm s))
           length = omega arith;
           release = λ j _. choice-facts .release-lt j;
           period = λ j _. choice-facts .period-lt j;
-          start = λ a _. omega (arith, lowest-is (model s .horizon) (λ t. runs (model s) (choice q .release) (choice q .duration) t a) .bound);
-          end = λ a l. omega (arith, ended (model s) (choice q .release) (choice q .duration) (model s .horizon) a l (lasting a l) (settled a l) .past);
+          start = λ a _. omega (
+            arith,
+            lowest-is (model s .horizon) (λ t. runs (model s) (choice q .release) (choice q .duration) t a) .bound,
+          );
+          end = λ a l.
+              let end-at = ended (model s) (choice q .release) (choice q .duration) (model s .horizon) a l in
+              omega (arith, end-at (lasting a l) (settled a l) .past);
           word = λ t _. lt-of-lt-of-le (word-lt (model s) (choice q .release) (choice q .duration) t) (pow-mono k);
         }
 

@@ -13,58 +13,15 @@ use Rattle.schedule.specs.Bounded.{bit, ones}
 use Rattle.schedule.specs.declared.FormRefusal.{FormRefusal}
 use Rattle.schedule.specs.Fields.{Bytes}
 use Rattle.schedule.specs.Rule.{Rule, Refusal, AllHold, FirstBroken}
-use Rattle.schedule.specs.Model.{
-  Model,
-  model,
-  modelForm,
-  modelLength,
-  Within,
-  lengthRule,
-  versionRule,
-  formulaRule,
-  limitsRule,
-  threadRule,
-  activityRule,
-  maskRule,
-}
+use Rattle.schedule.specs.Model.{Model, model, modelForm, modelLength, Within}
+use Rattle.schedule.specs.Model.{lengthRule, versionRule, limitsRule, formulaRule, threadRule, activityRule, maskRule}
 use Rattle.schedule.specs.Timing.{deadlineRule}
-use Rattle.schedule.specs.Choice.{Choice, choice, choiceForm, choiceCounts, rangeRule, durationRule}
-use Rattle.schedule.specs.Plan.{Plan, plan, planForm, planCounts, wordRule}
-use Rattle.schedule.specs.Checks.{
-  rulesOf,
-  furtherOrder,
-  plainRules,
-  strictRules,
-  rule21,
-  rule22,
-  rule23,
-  rule24,
-  rule25,
-  rule26,
-  rule27,
-  rule28,
-  rule29,
-  rule30,
-  rule31,
-}
-use Rattle.schedule.specs.Answers.{
-  Answer,
-  accepted,
-  refused,
-  Figures,
-  figures,
-  plainChecks,
-  strictChecks,
-  plainVerdict,
-  strictVerdict,
-  machinePlan,
-  owedRule,
-  runRules,
-  Written,
-  lengthNeeded,
-  runChecks,
-  runAnswer,
-}
+use Rattle.schedule.specs.Choice.{Choice, choice, choiceForm}
+use Rattle.schedule.specs.Plan.{Plan, plan, planForm}
+use Rattle.schedule.specs.Checks.{rulesOf, furtherOrder, plainRules, strictRules}
+use Rattle.schedule.specs.Answers.{Answer, accepted, refused, Figures, figures, Written, lengthNeeded, machinePlan}
+use Rattle.schedule.specs.Answers.{plainChecks, strictChecks, plainVerdict, strictVerdict}
+use Rattle.schedule.specs.Answers.{owedRule, runRules, runChecks, runAnswer}
 use Rattle.schedule.specs.Streams.{taken, firstRecord, secondRecord}
 use Rattle.schedule.specs.Lines.{runRoom, runLines, gridcheck, gridrun}
 use Rattle.laws.proofs.Counting.{count-le}
@@ -73,6 +30,7 @@ use Rattle.schedule.specs.Numbers.{formNumber}
 use Rattle.laws.proofs.FirstBreak.{AllSound, some-iff, append-some, sound-append, hold-append, hold-or-broken, says}
 use Rattle.laws.proofs.Sound.{plainChecks-sound, strictChecks-sound, runChecks-sound}
 use Rattle.laws.proofs.RuleNumbers.{AllRules, rules-append, first-broken-rule}
+use Rattle.laws.proofs.Opened.{form-rules, check-rules}
 use Rattle.laws.proofs.LinesLaws.{second-bytes}
 use Rattle.laws.proofs.LineLengths.{
   Short,
@@ -124,11 +82,11 @@ abbrev Limited : Model → Type 0
 Limited m = (Within 1 8 (m .cores) × Within 1 8 (m .threads)) × (Within 1 32 (m .activities) × Within 1 4096 (m .horizon))
 
 limited : (s : List ℕ) → AllHold (sizing s) → Limited (model s)
-unfolding lengthRule versionRule limitsRule
+unfolding form-rules
 limited s h = says (formNumber FormRefusal.ModelLimits) (sizing s) h 0 0 (omega arith) (omega arith)
 
 sizing-narrow : (s : List ℕ) → AllRules Narrow (sizing s)
-unfolding lengthRule versionRule limitsRule
+unfolding form-rules
 sizing-narrow s = omega arith
 
 -- a refusal by a list that begins with rules 1 to 3, where the others are narrow within the limits
@@ -149,24 +107,24 @@ short-refusal s rest x sound narrow h =
 
 -- within the limits every other rule is narrow
 rowing-narrow : (s : List ℕ) → Limited (model s) → AllRules Narrow (rowing s)
-unfolding formulaRule threadRule activityRule maskRule
+unfolding form-rules
 rowing-narrow s l = omega arith
 
 plan-narrow : (m : Model) (r : List ℕ) → Limited m → AllRules Narrow (planForm m r)
-unfolding planForm lengthRule versionRule formulaRule planCounts rangeRule wordRule
+unfolding planForm form-rules
 plan-narrow m r l = omega arith
 
 plain-narrow : (m : Model) (p : Plan) → Limited m → AllRules Narrow (plainRules m p)
-unfolding plainRules rule21 rule22 rule23 rule24 rule25 rule26 rule27 rule28 rule29 deadlineRule
+unfolding plainRules check-rules
 plain-narrow m p l = omega arith
 
 strict-narrow : (m : Model) (p : Plan) → Limited m → AllRules Narrow (strictRules m p)
-unfolding plainRules strictRules rule30 rule31
+unfolding plainRules strictRules check-rules
 strict-narrow m p l =
     rules-append Narrow (plainRules m p) (rulesOf furtherOrder m p) (plain-narrow m p l) (omega arith)
 
 choice-narrow : (m : Model) (q : List ℕ) → Limited m → AllRules Narrow (choiceForm m q)
-unfolding choiceForm lengthRule versionRule formulaRule choiceCounts rangeRule durationRule
+unfolding choiceForm form-rules
 choice-narrow m q l = omega arith
 
 run-narrow : (m : Model) (q : Choice) → Limited m → AllRules Narrow (runRules m q)
@@ -176,7 +134,7 @@ run-narrow m q l = omega arith
 -- ---- figures
 
 form-limited : (s : List ℕ) → AllHold (modelForm s) → Limited (model s)
-unfolding modelForm lengthRule versionRule limitsRule
+unfolding modelForm form-rules
 form-limited s h = says (formNumber FormRefusal.ModelLimits) (modelForm s) h 0 0 (omega arith) (omega arith)
 
 -- what the plain check passes has figures below a hundred and fifty thousand
@@ -202,6 +160,14 @@ behind-form s more x sound narrow h =
     short-refusal s (rowing s ++ more) x sound
     (λ l. rules-append Narrow (rowing s) more (rowing-narrow s l) (narrow l)) h
 
+-- and by the form rules of both records and what follows them
+behind-forms : (s r : List ℕ) (rules : List Rule) (x : Refusal)
+    → AllSound (modelForm s ++ (planForm (model s) r ++ rules)) → (Limited (model s) → AllRules Narrow rules)
+    → FirstBroken (modelForm s ++ (planForm (model s) r ++ rules)) x → ShortRefusal x
+behind-forms s r rules x sound narrow =
+    behind-form s (planForm (model s) r ++ rules) x sound
+    (λ l. rules-append Narrow (planForm (model s) r) rules (plan-narrow (model s) r l) (narrow l))
+
 plain-short : (s r : List ℕ) → ShortAnswer (plainVerdict s r)
 unfolding plainChecks
 plain-short s r = by (plainVerdict s r) refl
@@ -209,8 +175,7 @@ plain-short s r = by (plainVerdict s r) refl
     by : (v : Answer Figures) → plainVerdict s r ≡ v → ShortAnswer v
     by (accepted f) e = let pass = plain-accepted s r f .0 e in subst ShortFigures (pass .1) (pass-short s r (pass .0))
     by (refused x) e =
-        behind-form s (planForm (model s) r ++ plainRules (model s) (plan r)) x (plainChecks-sound s r)
-        (λ l. rules-append Narrow (planForm (model s) r) (plainRules (model s) (plan r)) (plan-narrow (model s) r l) (plain-narrow (model s) (plan r) l))
+        behind-forms s r (plainRules (model s) (plan r)) x (plainChecks-sound s r) (plain-narrow (model s) (plan r))
         (plain-refused s r x .0 e)
 
 strict-short : (s r : List ℕ) → ShortAnswer (strictVerdict s r)
@@ -220,8 +185,7 @@ strict-short s r = by (strictVerdict s r) refl
     by : (v : Answer Figures) → strictVerdict s r ≡ v → ShortAnswer v
     by (accepted f) e = subst ShortAnswer (strict-then-plain s r f e) (plain-short s r)
     by (refused x) e =
-        behind-form s (planForm (model s) r ++ strictRules (model s) (plan r)) x (strictChecks-sound s r)
-        (λ l. rules-append Narrow (planForm (model s) r) (strictRules (model s) (plan r)) (plan-narrow (model s) r l) (strict-narrow (model s) (plan r) l))
+        behind-forms s r (strictRules (model s) (plan r)) x (strictChecks-sound s r) (strict-narrow (model s) (plan r))
         (strict-refused s r x .0 e)
 
 -- gridcheck's two lines have at most 97 bytes

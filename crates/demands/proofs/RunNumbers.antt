@@ -12,46 +12,16 @@ use lib.Dec.{ltb}
 use lib.ListN.{length}
 use borrow.Author.Tests.{lt-ltb, le-ltb}
 use Rattle.schedule.specs.Rule.{Refusal, firstBreak}
-use Rattle.schedule.specs.Model.{
-  Model,
-  model,
-  lengthRule,
-  versionRule,
-  formulaRule,
-  limitsRule,
-  threadRule,
-  activityRule,
-  maskRule,
-  modelForm,
-}
-use Rattle.schedule.specs.Choice.{Choice, choice, choiceCounts, rangeRule, durationRule, choiceForm}
+use Rattle.schedule.specs.Model.{Model, model, modelForm}
+use Rattle.schedule.specs.Choice.{Choice, choice, choiceForm}
 use Rattle.schedule.specs.Timing.{deadlineRule}
-use Rattle.schedule.specs.Answers.{
-  Answer,
-  refused,
-  answer,
-  owedRule,
-  runRules,
-  Written,
-  lengthNeeded,
-  written,
-  runChecks,
-  Outcome,
-  from-input,
-  from-buffer,
-  from-run,
-  succeeded,
-  concluded,
-  outcome,
-  runOutcome,
-  answerOf,
-  runAnswer,
-  bufferAfter,
-  runBuffer,
-}
+use Rattle.schedule.specs.Answers.{Answer, refused, answer, owedRule, runRules, runChecks, Written, written, lengthNeeded}
+use Rattle.schedule.specs.Answers.{Outcome, from-input, from-buffer, from-run, succeeded, concluded, outcome, runOutcome}
+use Rattle.schedule.specs.Answers.{answerOf, runAnswer, bufferAfter, runBuffer}
 use Rattle.laws.proofs.FirstBreak.{none-iff, some-iff, _&_}
 use Rattle.laws.proofs.Sound.{runRules-sound, runChecks-sound}
 use Rattle.laws.proofs.RuleNumbers.{AllNumbers, rules-append, first-broken-number}
+use Rattle.laws.proofs.Opened.{form-rules}
 use Rattle.laws.proofs.VerdictLaws.{
   run-from-input,
   run-past-input,
@@ -97,8 +67,7 @@ KindNumbered (from-run x) = zeroing (x .number) ≡ true
 KindNumbered (succeeded w) = Unit {0}
 
 input-numbers : (s q : List ℕ) → AllNumbers (λ k. zeroing k ≡ false) (runChecks s q)
-unfolding runChecks modelForm choiceForm lengthRule versionRule formulaRule limitsRule threadRule activityRule maskRule
-    choiceCounts rangeRule durationRule
+unfolding runChecks modelForm choiceForm form-rules
 input-numbers s q =
     rules-append (λ r. zeroing (r .number) ≡ false) (modelForm s) (choiceForm (model s) q)
     (refl & refl & refl & refl & refl & refl & refl & tt) (refl & refl & refl & refl & refl & refl & tt)
