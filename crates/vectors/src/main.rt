@@ -13,6 +13,14 @@ use schedule::Refusal;
 use schedule::WordAt;
 ghost use Rattle.io.specs.Counts.{Counts};
 
+// What a case is of.
+enum Kind {
+    Check,
+    Run,
+    View,
+    Split,
+}
+
 // The next number of the file, 0 past its end.
 fn next_number(fd: i32) -> u32 {
     let mut four = [0u8; 4];
@@ -49,12 +57,11 @@ fn print_number(number: u32) {
 }
 
 // Reads the next case of the checks and prints its lines.
-fn next_case(fd: i32, number: u32) {
+fn next_check(fd: i32) {
     let mut model = [0u8; 1024];
     let mut plan = [0u8; 17189];
     let m = next_record(fd, &mut model);
     let p = next_record(fd, &mut plan);
-    print_number(number);
     print_lines(&model[..m], &plan[..p]);
 }
 
@@ -80,14 +87,13 @@ fn print_run(model: &[u8], choice: &[u8], out: &mut [u8]) {
 }
 
 // Reads the next case of the run and prints its lines and its buffer.
-fn next_run(fd: i32, number: u32) {
+fn next_run(fd: i32) {
     let mut model = [0u8; 1024];
     let mut choice = [0u8; 256];
     let mut out = [0u8; 17189];
     let m = next_record(fd, &mut model);
     let c = next_record(fd, &mut choice);
     let n = next_record(fd, &mut out);
-    print_number(number);
     print_run(&model[..m], &choice[..c], &mut out[..n]);
 }
 
@@ -134,13 +140,12 @@ fn print_word(found: WordAt) {
 }
 
 // Reads the next case of the view and prints what its making answers and what it gives.
-fn next_view(fd: i32, number: u32) {
+fn next_view(fd: i32) {
     let mut model = [0u8; 1024];
     let mut plan = [0u8; 17189];
     let m = next_record(fd, &mut model);
     let p = next_record(fd, &mut plan);
     let t = next_tick(fd);
-    print_number(number);
     print_making(view::refusal(&model[..m], &plan[..p]));
     print_word(view::word_at(&model[..m], &plan[..p], t));
 }
@@ -152,45 +157,29 @@ fn print_split(input: &[u8]) {
 }
 
 // Reads the next case of the splitter and prints its two records.
-fn next_split(fd: i32, number: u32) {
+fn next_split(fd: i32) {
     let mut input = [0u8; 256];
     let n = next_record(fd, &mut input);
-    print_number(number);
     print_split(&input[..n]);
 }
 
-fn all_cases(fd: i32) {
-    let count = next_number(fd);
-    let mut number = 0;
-    while number < count {
-        next_case(fd, number);
-        number += 1;
+// Reads the next case of a kind and prints what its call answers.
+fn next(fd: i32, kind: Kind) {
+    match kind {
+        Kind::Check => next_check(fd),
+        Kind::Run => next_run(fd),
+        Kind::View => next_view(fd),
+        Kind::Split => next_split(fd),
     }
 }
 
-fn all_runs(fd: i32) {
+// The cases of a kind, behind how many there are, each behind its number.
+fn all(fd: i32, kind: Kind) {
     let count = next_number(fd);
     let mut number = 0;
     while number < count {
-        next_run(fd, number);
-        number += 1;
-    }
-}
-
-fn all_views(fd: i32) {
-    let count = next_number(fd);
-    let mut number = 0;
-    while number < count {
-        next_view(fd, number);
-        number += 1;
-    }
-}
-
-fn all_splits(fd: i32) {
-    let count = next_number(fd);
-    let mut number = 0;
-    while number < count {
-        next_split(fd, number);
+        print_number(number);
+        next(fd, kind);
         number += 1;
     }
 }
@@ -201,9 +190,9 @@ fn main() {
         os::fail(b"cases");
         return;
     }
-    all_cases(fd);
-    all_runs(fd);
-    all_views(fd);
-    all_splits(fd);
+    all(fd, Kind::Check);
+    all(fd, Kind::Run);
+    all(fd, Kind::View);
+    all(fd, Kind::Split);
     libc::close(fd);
 }

@@ -1,15 +1,15 @@
--- `vectors::all_cases` is safe and ends: the measure is the number of cases left.
+-- `vectors::all` is safe and ends: the measure is the number of cases left.
 -- Assumes nothing.
 use Prim.Native.Nat.{_-_}
 use native.Mathlib.Omega.{arith}
-use Rattle.vectors.proofs.all_cases.Statement.{statement}
-use Rattle.vectors.proofs.all_cases.Tie as tie
+use Rattle.vectors.proofs.all.Statement.{statement}
+use Rattle.vectors.proofs.all.Tie as tie
 
 abbrev Inv-loop : tie.InvT-loop
-Inv-loop fd count number₀ number = Unit {0}
+Inv-loop fd kind count number₀ number = Unit {0}
 
 abbrev μ-loop : tie.MeasureT-loop
-μ-loop fd count number₀ number = count - number
+μ-loop fd kind count number₀ number = count - number
 
 next-number-requires : tie.Need-next-number-requires Inv-loop μ-loop
 next-number-requires c κs = tt
@@ -17,8 +17,11 @@ next-number-requires c κs = tt
 loop-holds : tie.Need-loop-holds Inv-loop μ-loop
 loop-holds c = tt
 
-next-case-requires : tie.Need-next-case-requires Inv-loop μ-loop
-next-case-requires c κs = tt
+print-number-requires : tie.Need-print-number-requires Inv-loop μ-loop
+print-number-requires c κs = tt
+
+next-requires : tie.Need-next-requires Inv-loop μ-loop
+next-requires c κs = tt
 
 add-number : tie.Need-add-number Inv-loop μ-loop
 add-number c = omega arith
@@ -32,15 +35,16 @@ loop-again c = tt
 returns : tie.Need-returns Inv-loop μ-loop
 returns c = tt
 
-pub all-cases-spec : {M : Type 1} → statement M
-all-cases-spec =
+pub all-spec : {M : Type 1} → statement M
+all-spec =
     tie.close
     (tie.spec
     Inv-loop
     μ-loop
     next-number-requires
     loop-holds
-    next-case-requires
+    print-number-requires
+    next-requires
     add-number
     loop-less
     loop-again
