@@ -14,7 +14,9 @@ same-length : tie.Need-same-length
 same-length c = search needs
 
 returns : tie.Need-returns
-returns c = (simp (c .run-answer .ensures, c .before .before .before .run .ensures .0), c .before .before .before .run .ensures .1)
+returns c =
+    let ran = c .before .before .before .run in
+    (simp (c .run-answer .ensures, ran .ensures .0), ran .ensures .1)
 
 pub grid-run-spec : {M : Type 1} → statement M
 grid-run-spec = tie.close (tie.spec run-requires run-answer-requires same-length returns)

@@ -20,8 +20,8 @@ returns c = search needs
 
 returns-2 : tie.Need-returns-2
 returns-2 c =
-    getD-past (c .before .before .before .args .s .now) (c .before .before .before .args .at) (c .before .before .before .args .j)
-    (omega arith)
+    let args = c .before .before .before .args in
+    getD-past (args .s .now) (args .at) (args .j) (omega arith)
 
 pub byte-after-spec : {M : Type 1} → statement M
 byte-after-spec = tie.close (tie.spec room-requires add-result shared-slice-read-result returns returns-2)

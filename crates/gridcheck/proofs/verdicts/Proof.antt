@@ -27,16 +27,15 @@ check-lines-requires c κs = search needs
 
 returns : tie.Need-returns
 returns c =
-    let first = c .before .before .before .before .before .before in
+    let strict = c .before .before .before in
+    let plain = strict .before in
+    let second = plain .before in
+    let first = second .before in
     let start = first .before .before in
     let lines = c .before .check-lines .ensures in (
       omega (arith, c .before .check-lines .kept, printed-le _ _ lines),
       answered (start .args .taken .now) _ (start .pre) (first .first-record .ensures)
-          (c .before .before .before .before .before .second-record .ensures)
-          (c .before .before .before .before .check-plain .ensures)
-          (c .before .before .before .check-strict .ensures)
-          (omega arith)
-          lines,
+          (second .second-record .ensures) (plain .check-plain .ensures) (strict .check-strict .ensures) (omega arith) lines,
     )
 
 pub verdicts-spec : {M : Type 1} → statement M

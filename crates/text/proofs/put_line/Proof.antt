@@ -29,9 +29,10 @@ same-length c = search needs
 returns : tie.Need-returns
 unfolding line
 returns c =
-    appended-both
-    (c .before .before .before .before .before .before .before .before .before .before .put .ensures)
-    (appended-both (c .before .before .before .before .before .before .put-word .ensures) (c .before .before .put-three .ensures))
+    let at-three = c .before .before in
+    let at-word = at-three .before .before .before .before in
+    let at-name = at-word .before .before .before .before in
+    appended-both (at-name .put .ensures) (appended-both (at-word .put-word .ensures) (at-three .put-three .ensures))
 
 pub put-line-spec : {M : Type 1} → statement M
 put-line-spec =

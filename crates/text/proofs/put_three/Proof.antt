@@ -46,11 +46,13 @@ same-length c = search needs
 
 returns : tie.Need-returns
 returns c =
-    let x = c .before .before .before .before .before .before .before .before .before .before .before .before .before .args in
+    let third = c .before .before in
+    let second = third .before .before .before .before in
+    let first = second .before .before .before .before in
+    let x = first .before .before .before .args in
     rw (three-parts (x .a) (x .b) (x .c))
-    (appended-both
-    (c .before .before .before .before .before .before .before .before .before .before .put-number .ensures)
-    (appended-both (c .before .before .before .before .before .before .put-number2 .ensures) (c .before .before .put-number3 .ensures)))
+    (appended-both (first .put-number .ensures)
+    (appended-both (second .put-number2 .ensures) (third .put-number3 .ensures)))
 
 pub put-three-spec : {M : Type 1} → statement M
 put-three-spec =

@@ -32,11 +32,13 @@ same-length c = search needs
 
 returns : tie.Need-returns
 returns c =
-    let x = c .before .before .before .before .before .before .before .before .before .before .before .before .before .before .args in
+    let at-end = c .before .before in
+    let at-word = at-end .before .before .before .before .before in
+    let at-tick = at-word .before .before .before .before in
+    let x = at-tick .before .before .before .args in
     rw (tick-parts (x .t) (x .word))
-    (appended-both
-    (c .before .before .before .before .before .before .before .before .before .before .before .put-number .ensures)
-    (appended-both (c .before .before .before .before .before .before .before .put-digits .ensures) (c .before .before .put .ensures)))
+    (appended-both (at-tick .put-number .ensures)
+    (appended-both (at-word .put-digits .ensures) (at-end .put .ensures)))
 
 pub put-tick-spec : {M : Type 1} → statement M
 put-tick-spec =

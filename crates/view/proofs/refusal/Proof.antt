@@ -12,9 +12,9 @@ enum-known-read c = search needs
 
 returns : tie.Need-returns
 returns c =
-    let x = c .before .before .before .before .before .before .args in
-    model-stops (x .model .now) (x .plan .now) _ (c .before .before .before .read .ensures) _
-    (c .before .read2 .given .1)
+    let at-read = c .before .before .before in
+    let x = at-read .before .before .before .args in
+    model-stops (x .model .now) (x .plan .now) _ (at-read .read .ensures) _ (c .before .read2 .given .1)
 
 enum-told : tie.Need-enum-told
 enum-told c = search needs
@@ -27,19 +27,24 @@ enum-known-form c = search needs
 
 returns-2 : tie.Need-returns-2
 returns-2 c =
-    let x = c .before .before .before .before .before .before .before .before .before .args in
-    plan-answers (x .model .now) (x .plan .now) _ (c .before .before .before .before .before .before .read .ensures) _
-    (c .before .before .before .before .enum-told .given .1) _ _ (c .before .form .given .1)
-    (c .before .before .before .read3 .ensures)
+    let at-form = c .before .before .before in
+    let at-told = at-form .before in
+    let at-read = at-told .before .before in
+    let x = at-read .before .before .before .args in
+    plan-answers (x .model .now) (x .plan .now) _ (at-read .read .ensures) _ (at-told .enum-told .given .1) _ _
+    (c .before .form .given .1) (at-form .read3 .ensures)
 
 enum-told-2 : tie.Need-enum-told-2
 enum-told-2 c = search needs
 
 returns-3 : tie.Need-returns-3
 returns-3 c =
-    let x = c .before .before .before .before .before .before .before .before .args in
-    plan-answers (x .model .now) (x .plan .now) _ (c .before .before .before .before .before .read .ensures) _
-    (c .before .before .before .enum-told .given .1) _ _ (c .enum-told2 .given .1) (c .before .before .read3 .ensures)
+    let at-form = c .before .before in
+    let at-told = at-form .before in
+    let at-read = at-told .before .before in
+    let x = at-read .before .before .before .args in
+    plan-answers (x .model .now) (x .plan .now) _ (at-read .read .ensures) _ (at-told .enum-told .given .1) _ _
+    (c .enum-told2 .given .1) (at-form .read3 .ensures)
 
 pub refusal-spec : {M : Type 1} → statement M
 refusal-spec =
