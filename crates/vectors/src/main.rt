@@ -13,7 +13,7 @@ use schedule::Refusal;
 use schedule::WordAt;
 ghost use Rattle.io.specs.Counts.{Counts};
 
-// What a case is of.
+// The kinds of cases, in the order of the file.
 enum Kind {
     Check,
     Run,
@@ -173,7 +173,7 @@ fn next(fd: i32, kind: Kind) {
     }
 }
 
-// The cases of a kind, behind how many there are, each behind its number.
+// Reads how many cases of a kind there are, then each, and prints it behind its number.
 fn all(fd: i32, kind: Kind) {
     let count = next_number(fd);
     let mut number = 0;
