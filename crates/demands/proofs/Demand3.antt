@@ -3,12 +3,10 @@
 -- the only one, and passes both checks; when it refuses, none passes.
 -- Assumes nothing.
 use Prim.Native.Nat.{ℕ, _≤_, _<_}
-use native.Mathlib.Nat.{lt-of-lt-of-le}
 use native.Mathlib.Omega.{arith}
 use mathlib.Core.List.{List}
 use mathlib.Core.Path.{_≡_, refl, sym, subst, ap, _∙_}
 use lib.ListN.{length, take, drop}
-use lib.Pow.{pow-mono}
 use lib.Seq.{take-at}
 use Rattle.schedule.specs.declared.RunRefusal.{RunRefusal}
 use Rattle.schedule.specs.Fields.{Bytes}
@@ -17,7 +15,7 @@ use Rattle.schedule.specs.Model.{model, modelForm, Formed}
 use Rattle.schedule.specs.Timing.{InTime, deadlineRule}
 use Rattle.schedule.specs.Choice.{choice, choiceTiming, choiceForm}
 use Rattle.schedule.specs.Plan.{plan, planTiming, planForm, planBytes}
-use Rattle.schedule.specs.Machine.{machineWord, machineStart, machineEnd, machineOwes}
+use Rattle.schedule.specs.Machine.{machineWord, machineEnd, machineOwes}
 use Rattle.schedule.specs.Keeps.{KeepsStrict}
 use Rattle.schedule.specs.Answers.{accepted, Figures, figures, Written, lengthNeeded, machinePlan}
 use Rattle.schedule.specs.Answers.{strictChecks, owedRule, runRules, runChecks, runAnswer}
@@ -29,8 +27,8 @@ use Rattle.laws.proofs.FirstBreak.{hold-append, says, _&_}
 use Rattle.laws.proofs.Deadlines.{in-time-same}
 use Rattle.laws.proofs.VerdictLaws.{accepted-is-not-refused}
 use Rattle.laws.proofs.Words.{bit-high}
-use Rattle.laws.proofs.Lowest.{lowest-is}
-use Rattle.laws.proofs.MachineLaws.{runs, word-lt, ended}
+use Rattle.laws.proofs.MachineLaws.{word-lt}
+use Rattle.laws.proofs.MachinePlan.{plan-fits}
 use Rattle.laws.proofs.Sums.{figures-ext}
 use Rattle.laws.proofs.Unique.{Beside, same-word, same-start, same-end, nothing-owed}
 use Rattle.laws.proofs.Exists.{Made, counted, keeps}
@@ -89,27 +87,7 @@ module _ (s q : List ℕ) (q-bytes : Bytes q) (formed : AllHold (modelForm s))
     in-time a l = says (runNumber RunRefusal.Late) (runRules (model s) (choice q)) settles a 0 l (omega arith)
 
     pub machine-fits : Fits (machinePlan (model s) (choice q))
-    unfolding machinePlan machineStart machineEnd machineOwes
-    machine-fits =
-        let n = model-facts .threads .1 in
-        let k = model-facts .activities .1 in
-        let H = model-facts .horizon .1 in
-        record {
-          threads = omega arith;
-          activities = omega arith;
-          horizon = omega arith;
-          length = omega arith;
-          release = λ j _. choice-facts .release-lt j;
-          period = λ j _. choice-facts .period-lt j;
-          start = λ a _. omega (
-            arith,
-            lowest-is (model s .horizon) (λ t. runs (model s) (choice q .release) (choice q .duration) t a) .bound,
-          );
-          end = λ a l.
-              let end-at = ended (model s) (choice q .release) (choice q .duration) (model s .horizon) a l in
-              omega (arith, end-at (lasting a l) (settled a l) .past);
-          word = λ t _. lt-of-lt-of-le (word-lt (model s) (choice q .release) (choice q .duration) t) (pow-mono k);
-        }
+    machine-fits = plan-fits (model s) (choice q) model-facts (choice-facts .release-lt) (choice-facts .period-lt)
 
     -- what is read back from the machine's plan
     pub back : ReadsBack (machinePlan (model s) (choice q))

@@ -29,10 +29,10 @@ end-le m release duration (suc t) a l =
     one h false = omega arith
 
 -- with releases and periods of two bytes, every part of the plan fits its field
-pub machine-fits : (m : Model) (q : Choice) → Formed m → ((j : ℕ) → q .release j < 65536) → ((j : ℕ) → q .period j < 65536)
+pub plan-fits : (m : Model) (q : Choice) → Formed m → ((j : ℕ) → q .release j < 65536) → ((j : ℕ) → q .period j < 65536)
     → Fits (machinePlan m q)
 unfolding machinePlan machineStart machineEnd
-machine-fits m q formed release period =
+plan-fits m q formed release period =
     let n = formed .threads .1 in
     let k = formed .activities .1 in
     let H = formed .horizon .1 in

@@ -33,7 +33,7 @@ use Rattle.laws.proofs.Parts.{Stands, stands-whole, stands-first, stands-field,
 use Rattle.laws.proofs.RowLaws.{refusalAt, ClearTo, clear-end, clear-stop, row-clear, row-broken}
 use Rattle.laws.proofs.Sums.{figures-ext}
 use Rattle.laws.proofs.MachineLaws.{word-lt}
-use Rattle.laws.proofs.MachinePlan.{end-le, machine-fits}
+use Rattle.laws.proofs.MachinePlan.{end-le, plan-fits}
 use Rattle.laws.proofs.Formed.{model-says}
 use Rattle.laws.proofs.PlanBytes.{length-pairs, length-planBytes, reads-from}
 use Rattle.laws.proofs.VerdictLaws.{run-from-input, run-past-input, outcome-short, outcome-fits}
@@ -287,7 +287,7 @@ figures-read : (m : Model) (q : Choice) (rest : List ℕ) → Formed m
 unfolding machinePlan
 figures-read m q rest formed release period =
     let bytes : List ℕ = planBytes (machinePlan m q) in
-    let back = reads-from (machinePlan m q) (machine-fits m q formed release period) (bytes ++ rest)
+    let back = reads-from (machinePlan m q) (plan-fits m q formed release period) (bytes ++ rest)
     (stands-first (bytes ++ rest) 0 bytes rest (stands-whole (bytes ++ rest))) in
     figures-ext m (plan (bytes ++ rest)) (machinePlan m q) (back .word) (back .end) (back .release)
 
