@@ -1,37 +1,42 @@
 -- The lists of rules as they are tried: the rules that name no row one by one, then each rule over its rows.
 -- Assumes nothing.
 use Prim.Native.Nat.{ℕ}
-use mathlib.Core.Bool.{Bool, _&&_}
+use mathlib.Core.Bool.{Bool, true, false, _&&_}
 use mathlib.Core.List.{List, [], _∷_}
-use mathlib.Core.Option.{none}
-use mathlib.Core.Path.{_≡_, refl, ap, _∙_}
-use lib.Dec.{eqb, leb}
-use lib.ListN.{length}
-use Rattle.schedule.specs.Fields.{field}
-use Rattle.schedule.specs.Rule.{Rule, break, firstBreak}
-use Rattle.schedule.specs.Model.{Model, model, modelLength, modelForm, lengthRule, versionRule, limitsRule, formulaRule}
-use Rattle.schedule.specs.Model.{threadRule, activityRule, maskRule}
-use Rattle.schedule.specs.Choice.{choice, choiceLength, choiceForm, choiceCounts, rangeRule, durationRule}
+use mathlib.Core.Option.{Option, none}
+use mathlib.Core.Path.{_≡_, refl, sym, ap, _∙_}
+use Rattle.schedule.specs.Rule.{Rule, Refusal, break, firstBreak}
+use Rattle.schedule.specs.Model.{model, modelLength, modelForm, lengthRule, versionRule, limitsRule, formulaRule}
+use Rattle.schedule.specs.Choice.{choice, choiceLength, choiceForm, choiceCounts, durationRule}
 use Rattle.schedule.specs.Plan.{plan, planLength, planForm, planCounts, wordRule}
 use Rattle.records.specs.declared.model.Sizes.{Sizes}
-use Rattle.records.specs.Rows.{limitsHold, sizesOf, countsHold, horizonHolds, timingRule}
-use Rattle.records.specs.Reads.{modelHead, choiceHead, planHead}
-use Rattle.records.proofs.Reading.{orElse, orElse-none, pick, rule-end, rule-next, rule-picked, rules-append}
+use Rattle.records.specs.Rows.{limitsHold, sizesOf, countsHold, horizonHolds}
+use Rattle.records.specs.Reads.{pick, orElse, headBreak, modelNames, secondBreak}
+use Rattle.records.specs.RowRules.{rowRules}
+use Rattle.records.proofs.Reading.{orElse-assoc, orElse-none, orElse-pick, rule-end, rule-next, rule-picked}
 
--- four rules that name no row
-head-of-four : (p q r s : Rule) → p .rows ≡ 1 → p .columns ≡ 1 → q .rows ≡ 1 → q .columns ≡ 1
-    → r .rows ≡ 1 → r .columns ≡ 1 → s .rows ≡ 1 → s .columns ≡ 1
-    → firstBreak (p ∷ q ∷ r ∷ s ∷ [])
-    ≡ pick (p .test 0 0) (p .number)
-    (pick (q .test 0 0) (q .number) (pick (r .test 0 0) (r .number) (pick (s .test 0 0) (s .number) none)))
-head-of-four p q r s p1 p2 q1 q2 r1 r2 s1 s2 =
-    rule-picked p (q ∷ r ∷ s ∷ []) p1 p2
-    ∙ ap (pick (p .test 0 0) (p .number))
-    (rule-picked q (r ∷ s ∷ []) q1 q2
-    ∙ ap (pick (q .test 0 0) (q .number))
-    (rule-picked r (s ∷ []) r1 r2
-    ∙ ap (pick (r .test 0 0) (r .number))
-    (rule-picked s [] s1 s2 ∙ ap (pick (s .test 0 0) (s .number)) rule-end)))
+-- a rule that names no row
+abbrev Single : Rule → Type 0
+Single r = (r .rows ≡ 1) × (r .columns ≡ 1)
+
+-- one, before rules whose first break is known
+before : (r : Rule) (rs : List Rule) (o rest : Option Refusal) → Single r → firstBreak rs ≡ orElse o rest
+    → firstBreak (r ∷ rs) ≡ orElse (pick (r .test 0 0) (r .number) o) rest
+before r rs o rest one h =
+    rule-picked r rs (one .0) (one .1)
+    ∙ ap (pick (r .test 0 0) (r .number)) h
+    ∙ sym (orElse-pick (r .test 0 0) (r .number) o rest)
+
+-- four, before others
+four-first : (p q r s : Rule) (rest : List Rule) (t : Bool) → Single p → Single q → Single r → Single s → r .test 0 0 ≡ t
+    → firstBreak (p ∷ q ∷ r ∷ s ∷ rest)
+    ≡ orElse
+    (pick (p .test 0 0) (p .number)
+    (pick (q .test 0 0) (q .number) (pick t (r .number) (pick (s .test 0 0) (s .number) none))))
+    (firstBreak rest)
+four-first p q r s rest t one two three four e =
+    rw (← e)
+    (before p _ _ _ one (before q _ _ _ two (before r _ _ _ three (before s rest none (firstBreak rest) four refl))))
 
 -- two rules, each over its rows
 two : (p q : Rule) → firstBreak (p ∷ q ∷ []) ≡ orElse (break p) (break q)
@@ -39,83 +44,49 @@ two p q =
     rule-next p (q ∷ [])
     ∙ ap (orElse (break p)) (rule-next q [] ∙ ap (orElse (break q)) rule-end ∙ orElse-none (break q))
 
--- the test of a record's length
-abbrev pub sized : ℕ → List ℕ → Bool
-sized k s = leb k (length s) && eqb (field s 0 4) (length s)
+-- rules 1 to 7, where the tests and the length were told
+pub model-form : (s : List ℕ) (sizes : Sizes) (limits : Bool) (wanted : ℕ) → sizes ≡ sizesOf (model s)
+    → limits ≡ limitsHold sizes → wanted ≡ modelLength (sizes .threads) (sizes .activities)
+    → firstBreak (modelForm s) ≡ orElse (headBreak s modelNames 10 limits wanted) (firstBreak (rowRules (model s)))
+unfolding modelForm headBreak lengthRule versionRule limitsRule formulaRule limitsHold sizesOf rowRules
+model-form s sizes limits wanted e t w =
+    rw (w, t, e) (four-first _ _ _ _ _ _ (refl, refl) (refl, refl) (refl, refl) (refl, refl) refl)
 
--- rules 1 to 4
-abbrev pub modelWanted : Sizes → ℕ
-modelWanted x = modelLength (x .threads) (x .activities)
+-- four, and two over rows behind them
+four-and-two : (l v n f p q : Rule) (t : Bool) → Single l → Single v → Single n → Single f → n .test 0 0 ≡ t
+    → firstBreak (l ∷ v ∷ n ∷ f ∷ p ∷ q ∷ [])
+    ≡ orElse
+    (orElse
+    (pick (l .test 0 0) (l .number)
+    (pick (v .test 0 0) (v .number) (pick t (n .number) (pick (f .test 0 0) (f .number) none))))
+    (break p))
+    (break q)
+four-and-two l v n f p q t one more three four e =
+    four-first l v n f (p ∷ q ∷ []) t one more three four e
+    ∙ ap (orElse head) (two p q)
+    ∙ sym (orElse-assoc head (break p) (break q))
+  where
+    head : Option Refusal
+    head =
+        pick (l .test 0 0) (l .number)
+        (pick (v .test 0 0) (v .number) (pick t (n .number) (pick (f .test 0 0) (f .number) none)))
 
-pub model-head : (s : List ℕ) → firstBreak (modelHead s)
-    ≡ pick (sized 10 s) 1
-    (pick (eqb (field s 4 1) 1) 2
-    (pick (limitsHold (sizesOf (model s))) 3
-    (pick (eqb (field s 0 4) (modelWanted (sizesOf (model s)))) 4 none)))
-unfolding modelHead lengthRule versionRule limitsRule formulaRule limitsHold sizesOf
-model-head s = head-of-four _ _ _ _ refl refl refl refl refl refl refl refl
+and-true : (t : Bool) → t ≡ (t && true)
+and-true true = refl
+and-true false = refl
 
--- rules 1 to 7
-pub model-form : (s : List ℕ) → firstBreak (modelForm s)
-    ≡ orElse (firstBreak (modelHead s))
-    (orElse (break (threadRule (model s))) (orElse (break (activityRule (model s))) (break (maskRule (model s)))))
-unfolding modelForm modelHead
-model-form s =
-    rules-append (modelHead s) (threadRule (model s) ∷ activityRule (model s) ∷ maskRule (model s) ∷ [])
-    ∙ ap (orElse (firstBreak (modelHead s)))
-    (rule-next (threadRule (model s)) (activityRule (model s) ∷ maskRule (model s) ∷ [])
-    ∙ ap (orElse (break (threadRule (model s)))) (two (activityRule (model s)) (maskRule (model s))))
+-- rules 8 to 13 of a choice, beside the bytes s of a model
+pub choice-form : (s q : List ℕ) (wanted : ℕ) → wanted ≡ choiceLength (choice q .threads) (choice q .activities)
+    → firstBreak (choiceForm (model s) q)
+    ≡ orElse (secondBreak s q 7 true wanted) (break (durationRule (model s) (choice q)))
+unfolding choiceForm headBreak lengthRule versionRule choiceCounts formulaRule countsHold model choice
+choice-form s q wanted w =
+    rw w (four-and-two _ _ _ _ _ _ _ (refl, refl) (refl, refl) (refl, refl) (refl, refl) (and-true _))
 
--- ---- the choice, beside the bytes s of a model
-
-abbrev pub choiceWanted : List ℕ → ℕ
-choiceWanted q = choiceLength (choice q .threads) (choice q .activities)
-
--- rules 8 to 11
-pub choice-head : (s q : List ℕ) → firstBreak (choiceHead (model s) q)
-    ≡ pick (sized 7 q) 8
-    (pick (eqb (field q 4 1) 1) 9
-    (pick (countsHold s q) 10 (pick (eqb (field q 0 4) (choiceWanted q)) 11 none)))
-unfolding choiceHead lengthRule versionRule choiceCounts formulaRule countsHold model choice
-choice-head s q = head-of-four _ _ _ _ refl refl refl refl refl refl refl refl
-
-choice-range : (m : Model) (q : List ℕ) → rangeRule m (choice q .release) (choice q .period) ≡ timingRule m q 7
-unfolding choice
-choice-range m q = refl
-
--- rules 8 to 13
-pub choice-form : (m : Model) (q : List ℕ) → firstBreak (choiceForm m q)
-    ≡ orElse (firstBreak (choiceHead m q)) (orElse (break (timingRule m q 7)) (break (durationRule m (choice q))))
-unfolding choiceForm choiceHead
-choice-form m q =
-    rules-append (choiceHead m q) (rangeRule m (choice q .release) (choice q .period) ∷ durationRule m (choice q) ∷ [])
-    ∙ ap (orElse (firstBreak (choiceHead m q)))
-    (two (rangeRule m (choice q .release) (choice q .period)) (durationRule m (choice q))
-    ∙ ap (λ (r : Rule). orElse (break r) (break (durationRule m (choice q)))) (choice-range m q))
-
--- ---- the plan, beside the bytes s of a model
-
-abbrev pub planWanted : List ℕ → ℕ
-planWanted r = planLength (plan r .threads) (plan r .activities) (plan r .horizon)
-
--- rules 8 to 11
-pub plan-head : (s r : List ℕ) → firstBreak (planHead (model s) r)
-    ≡ pick (sized 9 r) 8
-    (pick (eqb (field r 4 1) 1) 9
-    (pick (horizonHolds s r) 10 (pick (eqb (field r 0 4) (planWanted r)) 11 none)))
-unfolding planHead lengthRule versionRule planCounts formulaRule horizonHolds countsHold model plan
-plan-head s r = head-of-four _ _ _ _ refl refl refl refl refl refl refl refl
-
-plan-range : (m : Model) (r : List ℕ) → rangeRule m (plan r .release) (plan r .period) ≡ timingRule m r 9
-unfolding plan
-plan-range m r = refl
-
--- rules 8 to 12 and 14
-pub plan-form : (m : Model) (r : List ℕ) → firstBreak (planForm m r)
-    ≡ orElse (firstBreak (planHead m r)) (orElse (break (timingRule m r 9)) (break (wordRule m (plan r))))
-unfolding planForm planHead
-plan-form m r =
-    rules-append (planHead m r) (rangeRule m (plan r .release) (plan r .period) ∷ wordRule m (plan r) ∷ [])
-    ∙ ap (orElse (firstBreak (planHead m r)))
-    (two (rangeRule m (plan r .release) (plan r .period)) (wordRule m (plan r))
-    ∙ ap (λ (x : Rule). orElse (break x) (break (wordRule m (plan r)))) (plan-range m r))
+-- rules 8 to 12 and 14 of a plan
+pub plan-form : (s r : List ℕ) (further : Bool) (wanted : ℕ) → further ≡ horizonHolds s r
+    → wanted ≡ planLength (plan r .threads) (plan r .activities) (plan r .horizon)
+    → firstBreak (planForm (model s) r) ≡ orElse (secondBreak s r 9 further wanted) (break (wordRule (model s) (plan r)))
+unfolding planForm headBreak lengthRule versionRule planCounts formulaRule countsHold horizonHolds model plan
+plan-form s r further wanted t w =
+    rw (w, t) (four-and-two _ _ _ _ _ _ _ (refl, refl) (refl, refl) (refl, refl) (refl, refl) refl)

@@ -11,18 +11,11 @@ use Rattle.schedule.specs.Answers.{Answer, accepted, refused}
 use Rattle.schedule.specs.Numbers.{refusalNumbers}
 use Rattle.laws.proofs.NumbersLaws.{refusal-injective}
 use Rattle.records.specs.declared.Pass.{Pass}
-use Rattle.records.specs.declared.model.ThreadRead.{ThreadRead}
-use Rattle.records.specs.declared.model.ActivityRead.{ActivityRead}
+use Rattle.records.specs.declared.rows.RowRead.{RowRead}
 use Rattle.records.specs.declared.model.ModelRead.{ModelRead}
-use Rattle.records.specs.declared.form.HeadRead.{HeadRead}
-use Rattle.records.specs.declared.timings.TimingRead.{TimingRead}
-use Rattle.records.specs.declared.choice.DurationRead.{DurationRead}
 use Rattle.records.specs.declared.choice.ChoiceRead.{ChoiceRead}
-use Rattle.records.specs.declared.plan.WordRead.{WordRead}
 use Rattle.records.specs.declared.plan.PlanRead.{PlanRead}
-use Rattle.records.specs.Reads.{passNumbers, threadReadNumbers, activityReadNumbers, modelReadNumbers}
-use Rattle.records.specs.Reads.{headReadNumbers, timingReadNumbers, durationReadNumbers, choiceReadNumbers}
-use Rattle.records.specs.Reads.{wordReadNumbers, planReadNumbers}
+use Rattle.records.specs.Reads.{passNumbers, rowReadNumbers, modelReadNumbers, choiceReadNumbers, planReadNumbers}
 
 -- an answer is a row, said as it is, or a refusal, said by its numbers
 abbrev Says : {X F : Type 0} → (F → X) → (Refusal → X) → (X → Answer F) → X → Type 0
@@ -42,19 +35,12 @@ told-apart {X} {F} row sent numbers says x y e = by (says x) (says y)
         let same : refusalNumbers (a .0) ≡ refusalNumbers (b .0) = cc in
         a .1 .0 ∙ ap sent (refusal-injective (a .0) (b .0) same) ∙ sym (b .1 .0)
 
-pub thread-read-injective : (x y : ThreadRead) → threadReadNumbers x ≡ threadReadNumbers y → x ≡ y
-thread-read-injective = told-apart ThreadRead.Row ThreadRead.Refused threadReadNumbers says
+pub row-read-injective : (x y : RowRead) → rowReadNumbers x ≡ rowReadNumbers y → x ≡ y
+row-read-injective = told-apart RowRead.Row RowRead.Refused rowReadNumbers says
   where
-    says : (x : ThreadRead) → Says ThreadRead.Row ThreadRead.Refused threadReadNumbers x
-    says (ThreadRead.Row row) = inl (row, (refl, refl))
-    says (ThreadRead.Refused x) = inr (x, (refl, refl))
-
-pub activity-read-injective : (x y : ActivityRead) → activityReadNumbers x ≡ activityReadNumbers y → x ≡ y
-activity-read-injective = told-apart ActivityRead.Row ActivityRead.Refused activityReadNumbers says
-  where
-    says : (x : ActivityRead) → Says ActivityRead.Row ActivityRead.Refused activityReadNumbers x
-    says (ActivityRead.Row row) = inl (row, (refl, refl))
-    says (ActivityRead.Refused x) = inr (x, (refl, refl))
+    says : (x : RowRead) → Says RowRead.Row RowRead.Refused rowReadNumbers x
+    says (RowRead.Row row) = inl (row, (refl, refl))
+    says (RowRead.Refused x) = inr (x, (refl, refl))
 
 pub model-read-injective : (x y : ModelRead) → modelReadNumbers x ≡ modelReadNumbers y → x ≡ y
 model-read-injective = told-apart ModelRead.Model ModelRead.Refused modelReadNumbers says
@@ -62,34 +48,6 @@ model-read-injective = told-apart ModelRead.Model ModelRead.Refused modelReadNum
     says : (x : ModelRead) → Says ModelRead.Model ModelRead.Refused modelReadNumbers x
     says (ModelRead.Model row) = inl (row, (refl, refl))
     says (ModelRead.Refused x) = inr (x, (refl, refl))
-
-pub head-read-injective : (x y : HeadRead) → headReadNumbers x ≡ headReadNumbers y → x ≡ y
-head-read-injective = told-apart HeadRead.Head HeadRead.Refused headReadNumbers says
-  where
-    says : (x : HeadRead) → Says HeadRead.Head HeadRead.Refused headReadNumbers x
-    says (HeadRead.Head sizes) = inl (sizes, (refl, refl))
-    says (HeadRead.Refused x) = inr (x, (refl, refl))
-
-pub timing-read-injective : (x y : TimingRead) → timingReadNumbers x ≡ timingReadNumbers y → x ≡ y
-timing-read-injective = told-apart TimingRead.Row TimingRead.Refused timingReadNumbers says
-  where
-    says : (x : TimingRead) → Says TimingRead.Row TimingRead.Refused timingReadNumbers x
-    says (TimingRead.Row row) = inl (row, (refl, refl))
-    says (TimingRead.Refused x) = inr (x, (refl, refl))
-
-pub duration-read-injective : (x y : DurationRead) → durationReadNumbers x ≡ durationReadNumbers y → x ≡ y
-duration-read-injective = told-apart DurationRead.Row DurationRead.Refused durationReadNumbers says
-  where
-    says : (x : DurationRead) → Says DurationRead.Row DurationRead.Refused durationReadNumbers x
-    says (DurationRead.Row row) = inl (row, (refl, refl))
-    says (DurationRead.Refused x) = inr (x, (refl, refl))
-
-pub word-read-injective : (x y : WordRead) → wordReadNumbers x ≡ wordReadNumbers y → x ≡ y
-word-read-injective = told-apart WordRead.Row WordRead.Refused wordReadNumbers says
-  where
-    says : (x : WordRead) → Says WordRead.Row WordRead.Refused wordReadNumbers x
-    says (WordRead.Row row) = inl (row, (refl, refl))
-    says (WordRead.Refused x) = inr (x, (refl, refl))
 
 -- an answer with no row: nothing to say where there is no refusal
 abbrev noRow : Option Rule.Refusal → Answer (Unit {0})

@@ -1,16 +1,22 @@
--- A rule with no columns, tried row by row, and a list of rules, tried one after the other.
+-- A rule with no columns, tried row by row, and rules tried one after the other.
 -- Assumes nothing.
 use Prim.Native.Nat.{ℕ, _+_, _<_}
 use mathlib.Core.Bool.{Bool, true, false, not, cond}
-use mathlib.Core.List.{List, [], _∷_, _++_}
+use mathlib.Core.List.{List, [], _∷_}
 use mathlib.Core.Option.{Option, some, none}
-use mathlib.Core.Path.{_≡_, refl, sym, subst, ap, _∙_}
+use mathlib.Core.Path.{_≡_, refl, sym, subst, ap, ap₂, _∙_}
 use borrow.Author.Tests.{not-false, not-true}
 use Rattle.schedule.specs.Bounded.{first}
-use Rattle.schedule.specs.Rule.{Rule, Refusal, break, firstBreak}
+use Rattle.schedule.specs.Rule
+use Rattle.schedule.specs.Rule.{Rule, break, firstBreak}
 use Rattle.schedule.specs.Answers.{Answer, accepted, refused, answer}
+use Rattle.schedule.specs.Numbers.{refusalNumbers}
+use Rattle.schedule.specs.declared.Refusal.{Refusal}
 use Rattle.laws.proofs.RowLaws.{ClearTo, clear-again, clear-end, clear-stop, refusalAt, rowBreak}
-use Rattle.records.specs.Reads.{refusalIn, refusalOf, rowAnswer}
+use Rattle.records.specs.declared.Pass.{Pass}
+use Rattle.records.specs.declared.rows.Row.{Row}
+use Rattle.records.specs.declared.rows.RowRead.{RowRead}
+use Rattle.records.specs.Reads.{refusalIn, refusalOf, answerAt, rowAnswer, rowReadNumbers, passNumbers, passOf, pick, orElse}
 
 -- a call that tells a test said no, or yes
 pub told-no : {r s : Bool} → r ≡ s → not r ≡ true → s ≡ false
@@ -19,56 +25,91 @@ told-no {r} e n = sym e ∙ not-true r n
 pub told-yes : {r s : Bool} → r ≡ s → not r ≡ false → s ≡ true
 told-yes {r} e n = sym e ∙ not-false r n
 
+-- ---- a row
+
+-- the answer at a row of which the test and the row are known
+pub row-answered : (r : Rule) (a : ℕ) (o : Answer Row) (t : Bool) (row wanted : Row) → o ≡ answerAt t row (r .number) a
+    → t ≡ r .test a 0 → row ≡ wanted → o ≡ rowAnswer r a wanted
+unfolding rowAnswer
+row-answered r a o t row wanted e test same = rw (← test, ← same) e
+
 -- a row's answer is the row's break
-pub row-answer : {F : Type 0} (r : Rule) (a : ℕ) (row : F) → r .columns ≡ 1 → rowBreak r a ≡ refusalOf (rowAnswer r a row)
+row-break : (r : Rule) (a : ℕ) (row : Row) → r .columns ≡ 1 → rowBreak r a ≡ refusalOf (rowAnswer r a row)
 unfolding rowBreak rowAnswer first
-row-answer {F} r a row e =
+row-break r a row e =
     ap (λ (n : ℕ). first n (λ b. cond (r .test a b) none (some (refusalAt r a b)))) e ∙ one (r .test a 0)
   where
-    one : (t : Bool)
-        → cond t none (some (refusalAt r a 0)) ≡ refusalOf (cond t (accepted row) (refused (refusalIn (r .number) a)))
+    one : (t : Bool) → cond t none (some (refusalAt r a 0)) ≡ refusalOf (answerAt t row (r .number) a)
     one true = refl
     one false = refl
 
--- a loop over the rows: row i is taken, and the rows stay clear
-pub row-taken : {F : Type 0} (r : Rule) (i : ℕ) (row : F) (o : Answer F) → r .columns ≡ 1 → ClearTo r i
-    → o ≡ rowAnswer r i row → refusalOf o ≡ none → ClearTo r (i + 1)
-row-taken r i row o e h a n = clear-again r i h (row-answer r i row e ∙ ap refusalOf (sym a) ∙ n)
+pass-refusal : (read : RowRead) → passNumbers (passOf read) ≡ refusalOf (rowReadNumbers read)
+pass-refusal (RowRead.Row row) = refl
+pass-refusal (RowRead.Refused x) = refl
 
--- row i is refused, and that is the rule's break
-pub row-refused : {F : Type 0} (r : Rule) (i : ℕ) (row : F) (o : Answer F) (x : Refusal) → r .columns ≡ 1 → ClearTo r i
-    → i < r .rows → o ≡ rowAnswer r i row → refusalOf o ≡ some x → refusalOf o ≡ break r
-row-refused r i row o x e h l a s = s ∙ sym (clear-stop r i x h l (row-answer r i row e ∙ ap refusalOf (sym a) ∙ s))
+-- a loop over the rows of a rule: before row i none is broken, and row i is read
+module _ (r : Rule) (i : ℕ) (row : Row) (read : RowRead) (single : r .columns ≡ 1) (clear : ClearTo r i)
+    (e : rowReadNumbers read ≡ rowAnswer r i row) where
+  broken : rowBreak r i ≡ refusalOf (rowReadNumbers read)
+  broken = row-break r i row single ∙ ap refusalOf (sym e)
+
+  -- it is taken, and the rows stay clear
+  pub row-taken : (kept : Row) → read ≡ RowRead.Row kept → ClearTo r (i + 1)
+  row-taken kept told = clear-again r i clear (broken ∙ ap (λ (x : RowRead). refusalOf (rowReadNumbers x)) told)
+
+  -- it is refused, and that is the rule's break
+  pub row-refused : (x : Refusal) (pass : Pass) → i < r .rows → read ≡ RowRead.Refused x → pass ≡ passOf read
+      → passNumbers pass ≡ break r
+  row-refused x pass l told p =
+      ap passNumbers (p ∙ ap passOf told)
+      ∙ sym (clear-stop r i (refusalNumbers x) clear l (broken ∙ ap (λ (x : RowRead). refusalOf (rowReadNumbers x)) told))
 
 -- all rows are clear
 pub rows-end : (r : Rule) (i : ℕ) → r .rows ≡ i → ClearTo r i → break r ≡ none
 rows-end r i e h = clear-end r (subst (ClearTo r) (sym e) h)
 
--- the answer at a row whose test passes, and at one whose test fails
-pub row-passes : {F : Type 0} (r : Rule) (a : ℕ) (row wanted : F) → r .test a 0 ≡ true → row ≡ wanted
-    → accepted row ≡ rowAnswer r a wanted
-unfolding rowAnswer
-row-passes r a row wanted t e = rw t (ap accepted e)
+-- ---- one rule after the other
 
-pub row-fails : {F : Type 0} (r : Rule) (a : ℕ) (x : Refusal) (wanted : F) → r .test a 0 ≡ false → x ≡ refusalIn (r .number) a
-    → refused x ≡ rowAnswer r a wanted
-unfolding rowAnswer
-row-fails r a x wanted t e = rw t (ap refused e)
-
--- the first of two that is something
-abbrev pub orElse : Option Refusal → Option Refusal → Option Refusal
-orElse (some x) p = some x
-orElse none p = p
-
-orElse-assoc : (a b c : Option Refusal) → orElse (orElse a b) c ≡ orElse a (orElse b c)
+pub orElse-assoc : (a b c : Option Rule.Refusal) → orElse (orElse a b) c ≡ orElse a (orElse b c)
 orElse-assoc (some x) b c = refl
 orElse-assoc none b c = refl
 
-pub orElse-none : (o : Option Refusal) → orElse o none ≡ o
+pub orElse-none : (o : Option Rule.Refusal) → orElse o none ≡ o
 orElse-none (some x) = refl
 orElse-none none = refl
 
-next : (o p : Option Refusal) → elim o [ some x ↦ some x | none ↦ p ] ≡ orElse o p
+pub orElse-pick : (t : Bool) (number : ℕ) (o rest : Option Rule.Refusal)
+    → orElse (pick t number o) rest ≡ pick t number (orElse o rest)
+orElse-pick true number o rest = refl
+orElse-pick false number o rest = refl
+
+-- the first pass is refused, and that is the answer; or it holds, and the second is
+pub pass-stops : (first : Pass) (p rest : Option Rule.Refusal) (x : Refusal) → passNumbers first ≡ p → first ≡ Pass.Refused x
+    → passNumbers first ≡ orElse p rest
+pass-stops first p rest x e told =
+    ap passNumbers told ∙ ap (λ (o : Option Rule.Refusal). orElse o rest) (sym (ap passNumbers told) ∙ e)
+
+pub pass-goes-on : (first : Pass) (p rest o : Option Rule.Refusal) → passNumbers first ≡ p → first ≡ Pass.Holds → o ≡ rest
+    → o ≡ orElse p rest
+pass-goes-on first p rest o e told same =
+    same ∙ ap (λ (q : Option Rule.Refusal). orElse q rest) (sym (ap passNumbers told) ∙ e)
+
+-- two passes in a row, of rules whose first break is o
+module _ (o p q : Option Rule.Refusal) (first : Pass) (e : passNumbers first ≡ p) (form : o ≡ orElse p q) where
+  pub first-refused : (x : Refusal) → first ≡ Pass.Refused x → some (refusalNumbers x) ≡ o
+  first-refused x told = sym (ap passNumbers told) ∙ pass-stops first p q x e told ∙ sym form
+
+  module _ (held : first ≡ Pass.Holds) (second : Pass) (f : passNumbers second ≡ q) where
+    whole : passNumbers second ≡ o
+    whole = pass-goes-on first p q _ e held f ∙ sym form
+
+    pub second-refused : (x : Refusal) → second ≡ Pass.Refused x → some (refusalNumbers x) ≡ o
+    second-refused x told = sym (ap passNumbers told) ∙ whole
+
+    pub both-hold : second ≡ Pass.Holds → none ≡ o
+    both-hold told = sym (ap passNumbers told) ∙ whole
+
+next : (o p : Option Rule.Refusal) → elim o [ some x ↦ some x | none ↦ p ] ≡ orElse o p
 next (some x) p = refl
 next none p = refl
 
@@ -80,20 +121,7 @@ pub rule-end : firstBreak [] ≡ none
 unfolding firstBreak
 rule-end = refl
 
--- two lists of rules, one after the other
-pub rules-append : (xs ys : List Rule) → firstBreak (xs ++ ys) ≡ orElse (firstBreak xs) (firstBreak ys)
-unfolding firstBreak
-rules-append [] ys = refl
-rules-append (r ∷ xs) ys =
-    rule-next r (xs ++ ys)
-    ∙ ap (orElse (break r)) (rules-append xs ys)
-    ∙ sym (orElse-assoc (break r) (firstBreak xs) (firstBreak ys))
-    ∙ ap (λ (o : Option Refusal). orElse o (firstBreak ys)) (sym (rule-next r xs))
-
 -- a rule that names no row, at the head of a list
-abbrev pub pick : Bool → ℕ → Option Refusal → Option Refusal
-pick t number rest = cond t rest (some (refusalIn number 0))
-
 pub rule-picked : (r : Rule) (rs : List Rule) → r .rows ≡ 1 → r .columns ≡ 1
     → firstBreak (r ∷ rs) ≡ pick (r .test 0 0) (r .number) (firstBreak rs)
 unfolding break first
@@ -110,29 +138,19 @@ rule-picked r rs e f =
     one true = refl
     one false = refl
 
--- an answer that carries something is unbroken, and carries the pass
-pub unbroken : {F : Type 0} (o : Option Refusal) (pass f : F) (n : Answer F) → n ≡ answer o pass → n ≡ accepted f → o ≡ none
-unfolding answer
-unbroken none pass f n e told = refl
-unbroken (some y) pass f n e told = cc
+-- ---- a record's answer
 
-pub carried : {F : Type 0} (o : Option Refusal) (pass f : F) (n : Answer F) → n ≡ answer o pass → n ≡ accepted f → f ≡ pass
-unfolding answer
-carried none pass f n e told = cc
-carried (some y) pass f n e told = cc
-
--- one that carries a refusal is the answer, whatever rules come behind
-pub stopped : {F : Type 0} (o rest : Option Refusal) (pass : F) (n : Answer F) (x : Refusal)
-    → n ≡ answer o pass → n ≡ refused x → n ≡ answer (orElse o rest) pass
-unfolding answer
-stopped none rest pass n x e told = cc
-stopped (some y) rest pass n x e told = e
-
-pub answer-refusal : {F : Type 0} (o : Option Refusal) (pass : F) → refusalOf (answer o pass) ≡ o
+pub answer-refusal : {F : Type 0} (o : Option Rule.Refusal) (pass : F) → refusalOf (answer o pass) ≡ o
 unfolding answer
 answer-refusal none pass = refl
 answer-refusal (some x) pass = refl
 
--- and so is a pass that is refused
-pub pass-stopped : (o p rest : Option Refusal) (x : Refusal) → o ≡ p → o ≡ some x → o ≡ orElse p rest
-pass-stopped o p rest x e told = told ∙ ap (λ (q : Option Refusal). orElse q rest) (sym told ∙ e)
+pub answer-refused : {F : Type 0} (o : Option Rule.Refusal) (pass : F) (x : Rule.Refusal) → some x ≡ o
+    → refused x ≡ answer o pass
+unfolding answer
+answer-refused o pass x e = ap (λ (o : Option Rule.Refusal). answer o pass) e
+
+pub answer-accepted : {F : Type 0} (o : Option Rule.Refusal) (pass wanted : F) → none ≡ o → pass ≡ wanted
+    → accepted pass ≡ answer o wanted
+unfolding answer
+answer-accepted o pass wanted e same = ap₂ answer e same

@@ -1,28 +1,22 @@
--- Each rule's test at a row is the test of the row that was read.
+-- Each row call's answer is that of its rule at the row: the test of the row that was read is the rule's test there.
 -- Assumes nothing.
 use Prim.Native.Nat.{ℕ}
-use mathlib.Core.Bool.{_&&_}
+use mathlib.Core.Bool.{Bool, _&&_}
 use mathlib.Core.List.{List}
-use mathlib.Core.Path.{_≡_, refl, sym}
+use mathlib.Core.Path.{_≡_, refl, sym, ap, ap₂, _∙_}
+use Rattle.schedule.specs.Answers.{Answer}
 use Rattle.schedule.specs.Model.{Model, within, threadRule, activityRule, maskRule}
 use Rattle.schedule.specs.Choice.{Choice, durationRule, rangeRule}
 use Rattle.schedule.specs.Plan.{Plan, wordRule}
+use Rattle.records.specs.declared.rows.Row.{Row}
+use Rattle.records.specs.declared.model.ThreadRow.{ThreadRow}
 use Rattle.records.specs.declared.model.ActivityRow.{ActivityRow}
+use Rattle.records.specs.declared.plan.Timing.{Timing}
 use Rattle.records.specs.Rows.{threadRowOf, activityRowOf, threadHolds, activityHolds, masksHold}
 use Rattle.records.specs.Rows.{noneFrom, timing, timingAt, timingHolds, timingRule}
+use Rattle.records.specs.Reads.{answerAt, rowAnswer}
 use Rattle.records.proofs.Masks.{none-from-both}
-
-pub thread-test : (m : Model) (j : ℕ) → threadRule m .test j 0 ≡ threadHolds (threadRowOf m j)
-unfolding threadRule threadHolds threadRowOf
-thread-test m j = refl
-
-pub activity-test : (m : Model) (a : ℕ) → activityRule m .test a 0 ≡ activityHolds (m .threads) (activityRowOf m a)
-unfolding activityRule activityHolds activityRowOf
-activity-test m a = refl
-
-pub masks-test : (m : Model) (a : ℕ) → maskRule m .test a 0 ≡ masksHold a (activityRowOf m a)
-unfolding maskRule masksHold activityRowOf
-masks-test m a = refl
+use Rattle.records.proofs.Reading.{row-answered}
 
 -- rule 7 of one mask and of the other
 pub masks-parts : (a : ℕ) (row : ActivityRow)
@@ -30,17 +24,50 @@ pub masks-parts : (a : ℕ) (row : ActivityRow)
 unfolding masksHold noneFrom
 masks-parts a row = sym (none-from-both 32 a (row .«temporal_mask») (row .«data_mask»))
 
-pub timing-test : (m : Model) (s : List ℕ) (at j : ℕ)
-    → timingRule m s at .test j 0 ≡ timingHolds (threadRowOf m j) (timingAt s at j)
+-- ---- an answer o, from a test t of what was read
+
+pub thread-answered : (m : Model) (j : ℕ) (o : Answer Row) (t : Bool) (row : ThreadRow) → row ≡ threadRowOf m j
+    → t ≡ threadHolds row → o ≡ answerAt t (Row.Thread row) 5 j
+    → o ≡ rowAnswer (threadRule m) j (Row.Thread (threadRowOf m j))
+unfolding threadRule threadHolds threadRowOf
+thread-answered m j o t row e holds said =
+    row-answered (threadRule m) j o t (Row.Thread row) _ said (holds ∙ ap threadHolds e) (ap Row.Thread e)
+
+pub activity-answered : (m : Model) (a n : ℕ) (o : Answer Row) (t : Bool) (row : ActivityRow) → row ≡ activityRowOf m a
+    → n ≡ m .threads → t ≡ activityHolds n row → o ≡ answerAt t (Row.Activity row) 6 a
+    → o ≡ rowAnswer (activityRule m) a (Row.Activity (activityRowOf m a))
+unfolding activityRule activityHolds activityRowOf
+activity-answered m a n o t row e threads holds said =
+    row-answered (activityRule m) a o t (Row.Activity row) _ said (holds ∙ ap₂ activityHolds threads e) (ap Row.Activity e)
+
+pub masks-answered : (m : Model) (a : ℕ) (o : Answer Row) (t : Bool) (row : ActivityRow) → row ≡ activityRowOf m a
+    → t ≡ masksHold a row → o ≡ answerAt t (Row.Activity row) 7 a
+    → o ≡ rowAnswer (maskRule m) a (Row.Activity (activityRowOf m a))
+unfolding maskRule masksHold activityRowOf
+masks-answered m a o t row e holds said =
+    row-answered (maskRule m) a o t (Row.Activity row) _ said (holds ∙ ap (masksHold a) e) (ap Row.Activity e)
+
+pub timing-answered : (m : Model) (r : List ℕ) (at j : ℕ) (o : Answer Row) (t : Bool) (row : Timing) → row ≡ timingAt r at j
+    → t ≡ timingHolds (threadRowOf m j) row → o ≡ answerAt t (Row.Timing row) 12 j
+    → o ≡ rowAnswer (timingRule m r at) j (Row.Timing (timingAt r at j))
 unfolding rangeRule timingHolds threadRowOf timingAt timing
-timing-test m s at j = refl
+timing-answered m r at j o t row e holds said =
+    row-answered (timingRule m r at) j o t (Row.Timing row) _ said (holds ∙ ap (timingHolds (threadRowOf m j)) e)
+    (ap Row.Timing e)
 
-pub duration-test : (m : Model) (q : Choice) (a : ℕ)
-    → durationRule m q .test a 0
-    ≡ within (activityRowOf m a .«least_duration») (activityRowOf m a .«most_duration») (q .duration a)
+pub duration-answered : (m : Model) (q : Choice) (a : ℕ) (o : Answer Row) (t : Bool) (range : ActivityRow) (chosen : ℕ)
+    → range ≡ activityRowOf m a → chosen ≡ q .duration a
+    → t ≡ within (range .«least_duration») (range .«most_duration») chosen → o ≡ answerAt t (Row.Duration chosen) 13 a
+    → o ≡ rowAnswer (durationRule m q) a (Row.Duration (q .duration a))
 unfolding durationRule activityRowOf
-duration-test m q a = refl
+duration-answered m q a o t range chosen e same holds said =
+    row-answered (durationRule m q) a o t (Row.Duration chosen) _ said
+    (holds ∙ ap₂ (λ (row : ActivityRow). within (row .«least_duration») (row .«most_duration»)) e same)
+    (ap Row.Duration same)
 
-pub word-test : (m : Model) (p : Plan) (t : ℕ) → wordRule m p .test t 0 ≡ noneFrom (p .word t) (m .activities)
+pub word-answered : (m : Model) (p : Plan) (t : ℕ) (o : Answer Row) (clear : Bool) (word n : ℕ) → word ≡ p .word t
+    → n ≡ m .activities → clear ≡ noneFrom word n → o ≡ answerAt clear (Row.Word word) 14 t
+    → o ≡ rowAnswer (wordRule m p) t (Row.Word (p .word t))
 unfolding wordRule noneFrom
-word-test m p t = refl
+word-answered m p t o clear word n e activities holds said =
+    row-answered (wordRule m p) t o clear (Row.Word word) _ said (holds ∙ ap₂ noneFrom e activities) (ap Row.Word e)

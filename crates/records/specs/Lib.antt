@@ -1,3 +1,4 @@
 pub mod Rows
 pub mod Reads
+pub mod RowRules
 pub mod Writes

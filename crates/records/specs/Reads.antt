@@ -1,38 +1,32 @@
--- What the readers' answers say in the paper's numbers, and what a row of a rule answers.
+-- What the readers' answers say in the paper's numbers, what a row of a rule answers, and the first break of the rules that
+-- name no row.
 -- Assumes nothing.
 use Prim.Native.Nat.{ℕ}
-use mathlib.Core.Bool.{cond}
-use mathlib.Core.List.{List, [], _∷_}
+use mathlib.Core.Bool.{Bool, _&&_, cond}
+use mathlib.Core.List.{List}
 use mathlib.Core.Option.{Option, some, none}
+use lib.Dec.{eqb, leb}
+use lib.ListN.{length}
+use Rattle.schedule.specs.Fields.{field}
 use Rattle.schedule.specs.Rule
-use Rattle.schedule.specs.Rule.{Rule}
+use Rattle.schedule.specs.Rule.{Rule, break}
 use Rattle.schedule.specs.Answers.{Answer, accepted, refused}
-use Rattle.schedule.specs.Choice.{choice, choiceCounts, choiceLength}
-use Rattle.schedule.specs.Plan.{plan, planCounts, planLength}
-use Rattle.schedule.specs.Model.{Model, model, modelLength, lengthRule, versionRule, limitsRule, formulaRule}
-use Rattle.schedule.specs.Numbers.{refusalNumbers}
+use Rattle.schedule.specs.Model.{model}
+use Rattle.schedule.specs.Numbers.{formNumber, refusalNumbers}
+use Rattle.schedule.specs.declared.FormRefusal.{FormRefusal}
 use Rattle.records.specs.declared.Pass.{Pass}
+use Rattle.records.specs.declared.form.Names.{Names}
+use Rattle.records.specs.declared.rows.Row.{Row}
+use Rattle.records.specs.declared.rows.RowRead.{RowRead}
 use Rattle.records.specs.declared.model.Sizes.{Sizes}
-use Rattle.records.specs.declared.model.ThreadRow.{ThreadRow}
-use Rattle.records.specs.declared.model.ActivityRow.{ActivityRow}
-use Rattle.records.specs.declared.model.ThreadRead.{ThreadRead}
-use Rattle.records.specs.declared.model.ActivityRead.{ActivityRead}
 use Rattle.records.specs.declared.model.ModelRead.{ModelRead}
-use Rattle.records.specs.declared.form.HeadRead.{HeadRead}
-use Rattle.records.specs.declared.plan.Timing.{Timing}
-use Rattle.records.specs.declared.timings.TimingRead.{TimingRead}
-use Rattle.records.specs.declared.choice.DurationRead.{DurationRead}
 use Rattle.records.specs.declared.choice.ChoiceRead.{ChoiceRead}
-use Rattle.records.specs.declared.plan.WordRead.{WordRead}
 use Rattle.records.specs.declared.plan.PlanRead.{PlanRead}
+use Rattle.records.specs.Rows.{countsHold, timingRule}
 
 -- a refusal that names row A alone
 abbrev pub refusalIn : ℕ → ℕ → Rule.Refusal
 refusalIn number a = record { number = number; A = a; B = 0 }
-
--- what row a of a rule with no columns answers: the row where the test passes, else the refusal
-unfoldable pub rowAnswer : {F : Type 0} → Rule → ℕ → F → Answer F
-rowAnswer r a row = cond (r .test a 0) (accepted row) (refused (refusalIn (r .number) a))
 
 -- the refusal of an answer
 abbrev pub refusalOf : {F : Type 0} → Answer F → Option Rule.Refusal
@@ -44,73 +38,81 @@ abbrev pub passNumbers : Pass → Option Rule.Refusal
 passNumbers Pass.Holds = none
 passNumbers (Pass.Refused x) = some (refusalNumbers x)
 
--- ---- the model
+-- ---- a row
 
-abbrev pub threadReadNumbers : ThreadRead → Answer ThreadRow
-threadReadNumbers (ThreadRead.Row row) = accepted row
-threadReadNumbers (ThreadRead.Refused x) = refused (refusalNumbers x)
+-- the row where the test passed, else the refusal of a number at row a
+abbrev pub answerAt : {F : Type 0} → Bool → F → ℕ → ℕ → Answer F
+answerAt t row number a = cond t (accepted row) (refused (refusalIn number a))
 
-abbrev pub activityReadNumbers : ActivityRead → Answer ActivityRow
-activityReadNumbers (ActivityRead.Row row) = accepted row
-activityReadNumbers (ActivityRead.Refused x) = refused (refusalNumbers x)
+-- what row a of a rule with no columns answers
+unfoldable pub rowAnswer : {F : Type 0} → Rule → ℕ → F → Answer F
+rowAnswer r a row = answerAt (r .test a 0) row (r .number) a
+
+abbrev pub rowReadNumbers : RowRead → Answer Row
+rowReadNumbers (RowRead.Row row) = accepted row
+rowReadNumbers (RowRead.Refused x) = refused (refusalNumbers x)
+
+-- the refusal that a row's answer carries
+abbrev pub passOf : RowRead → Pass
+passOf (RowRead.Row row) = Pass.Holds
+passOf (RowRead.Refused x) = Pass.Refused x
+
+-- ---- the rules that name no row
+
+-- a rule that names no row, before the rest
+abbrev pub pick : Bool → ℕ → Option Rule.Refusal → Option Rule.Refusal
+pick t number rest = cond t rest (some (refusalIn number 0))
+
+-- the first of two that is something
+abbrev pub orElse : Option Rule.Refusal → Option Rule.Refusal → Option Rule.Refusal
+orElse (some x) p = some x
+orElse none p = p
+
+-- the test of a record's length
+abbrev pub sized : ℕ → List ℕ → Bool
+sized k s = leb k (length s) && eqb (field s 0 4) (length s)
+
+-- the four rules that come first in a record, with the test of its counts and the length that its formula gives
+unfoldable pub headBreak : List ℕ → Names → ℕ → Bool → ℕ → Option Rule.Refusal
+headBreak s names least counts wanted =
+    pick (sized least s) (formNumber (names .size))
+    (pick (eqb (field s 4 1) 1) (formNumber (names .version))
+    (pick counts (formNumber (names .counts))
+    (pick (eqb (field s 0 4) wanted) (formNumber (names .formula)) none)))
+
+-- rules 1 to 4, by name
+abbrev pub modelNames : Names
+modelNames = record {
+  size = FormRefusal.ModelSize;
+  version = FormRefusal.ModelVersion;
+  counts = FormRefusal.ModelLimits;
+  formula = FormRefusal.ModelFormula;
+}
+
+-- rules 8 to 11, by name
+abbrev pub secondNames : Names
+secondNames = record {
+  size = FormRefusal.SecondSize;
+  version = FormRefusal.SecondVersion;
+  counts = FormRefusal.SecondCounts;
+  formula = FormRefusal.SecondFormula;
+}
+
+-- rules 8 to 12 of the bytes r of a choice or a plan beside the bytes s of a model
+abbrev pub secondBreak : List ℕ → List ℕ → ℕ → Bool → ℕ → Option Rule.Refusal
+secondBreak s r at further wanted =
+    orElse (headBreak r secondNames at (countsHold s r && further) wanted) (break (timingRule (model s) r at))
+
+-- ---- the three records
 
 abbrev pub modelReadNumbers : ModelRead → Answer Sizes
 modelReadNumbers (ModelRead.Model sizes) = accepted sizes
 modelReadNumbers (ModelRead.Refused x) = refused (refusalNumbers x)
 
--- rules 1 to 4, which name no row
-unfoldable pub modelHead : List ℕ → List Rule
-modelHead s =
-    lengthRule 1 10 s
-    ∷ versionRule 2 s
-    ∷ limitsRule (model s)
-    ∷ formulaRule 4 (modelLength (model s .threads) (model s .activities)) s
-    ∷ []
-
--- ---- a second record's head, and rows of release and period
-
-abbrev pub headReadNumbers : HeadRead → Answer Sizes
-headReadNumbers (HeadRead.Head sizes) = accepted sizes
-headReadNumbers (HeadRead.Refused x) = refused (refusalNumbers x)
-
-abbrev pub timingReadNumbers : TimingRead → Answer Timing
-timingReadNumbers (TimingRead.Row row) = accepted row
-timingReadNumbers (TimingRead.Refused x) = refused (refusalNumbers x)
-
--- ---- the choice
-
-abbrev pub durationReadNumbers : DurationRead → Answer ℕ
-durationReadNumbers (DurationRead.Row chosen) = accepted chosen
-durationReadNumbers (DurationRead.Refused x) = refused (refusalNumbers x)
-
 abbrev pub choiceReadNumbers : ChoiceRead → Option Rule.Refusal
 choiceReadNumbers ChoiceRead.Choice = none
 choiceReadNumbers (ChoiceRead.Refused x) = some (refusalNumbers x)
 
--- rules 8 to 11, which name no row
-unfoldable pub choiceHead : Model → List ℕ → List Rule
-choiceHead m s =
-    lengthRule 8 7 s
-    ∷ versionRule 9 s
-    ∷ choiceCounts m (choice s)
-    ∷ formulaRule 11 (choiceLength (choice s .threads) (choice s .activities)) s
-    ∷ []
-
--- ---- the plan
-
-abbrev pub wordReadNumbers : WordRead → Answer ℕ
-wordReadNumbers (WordRead.Row word) = accepted word
-wordReadNumbers (WordRead.Refused x) = refused (refusalNumbers x)
-
 abbrev pub planReadNumbers : PlanRead → Option Rule.Refusal
 planReadNumbers PlanRead.Plan = none
 planReadNumbers (PlanRead.Refused x) = some (refusalNumbers x)
-
--- rules 8 to 11
-unfoldable pub planHead : Model → List ℕ → List Rule
-planHead m s =
-    lengthRule 8 9 s
-    ∷ versionRule 9 s
-    ∷ planCounts m (plan s)
-    ∷ formulaRule 11 (planLength (plan s .threads) (plan s .activities) (plan s .horizon)) s
-    ∷ []

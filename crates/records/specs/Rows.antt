@@ -94,7 +94,7 @@ countsHold s r = eqb (field r 5 1) (field s 6 1) && eqb (field r 6 1) (field s 7
 
 -- and a plan's H
 unfoldable pub horizonHolds : List ℕ → List ℕ → Bool
-horizonHolds s r = countsHold s r && eqb (field r 7 2) (field s 8 2)
+horizonHolds s r = eqb (field r 7 2) (field s 8 2)
 
 -- rule 12, of a thread's release and period beside its row in the model
 unfoldable pub timingHolds : ThreadRow → Timing → Bool

@@ -1,11 +1,13 @@
 // The choice record: "n, m (1 byte each); n rows of release, period (2 each); m durations (2 each)".
 use crate::Pass;
 use crate::form;
-use crate::form::HeadRead;
 use crate::model;
 use crate::model::Activity;
 use crate::model::Thread;
 use crate::plan::Timing;
+use crate::rows;
+use crate::rows::Row;
+use crate::rows::RowRead;
 use crate::timings;
 use schedule::FormRefusal;
 use schedule::Refusal;
@@ -13,10 +15,8 @@ ghost use mathlib.Core.Path.{_≡_};
 ghost use Rattle.schedule.specs.Rule.{break, firstBreak};
 ghost use Rattle.schedule.specs.Model.{model};
 ghost use Rattle.schedule.specs.Choice.{choice, choiceForm, choiceLength, durationAt, durationRule};
-ghost use Rattle.schedule.specs.Answers.{answer};
-ghost use Rattle.records.specs.Rows.{sizesOf, timing};
-ghost use Rattle.records.specs.Reads.{rowAnswer, refusalOf, passNumbers, headReadNumbers, choiceHead};
-ghost use Rattle.records.specs.Reads.{durationReadNumbers, choiceReadNumbers};
+ghost use Rattle.records.specs.Rows.{timing};
+ghost use Rattle.records.specs.Reads.{rowAnswer, rowReadNumbers, passNumbers, choiceReadNumbers};
 
 // Where the thread rows begin, behind the counts.
 const ROWS: u8 = 7;
@@ -51,7 +51,7 @@ pub fn duration(q: &[u8], a: Activity) -> u16
     fields::be16(q, duration_at(threads, number))
 }
 
-// ---- rules 8 to 11
+// ---- rules 8 to 13
 
 // "Length 7 + 4n + 2m": where one more duration would stand.
 fn formula(q: &[u8]) -> u32
@@ -60,71 +60,34 @@ fn formula(q: &[u8]) -> u32
     duration_at(fields::byte(q, 5), fields::byte(q, 6)) as u32
 }
 
-// Rules 8 to 11, "in list order".
-fn head(s: &[u8], q: &[u8]) -> HeadRead
-    ensures { λ r. ⌜ headReadNumbers r
-        ≡ answer (firstBreak (choiceHead (model (now (s .entry))) (now (q .entry)))) (sizesOf (model (now (s .entry)))) ⌝ }
-{
-    if !form::length_holds(q, 7) {
-        return HeadRead::Refused(form::refusal(FormRefusal::SecondSize, 0));
-    }
-    if !form::version_holds(q) {
-        return HeadRead::Refused(form::refusal(FormRefusal::SecondVersion, 0));
-    }
-    if !form::counts_hold(s, q) {
-        return HeadRead::Refused(form::refusal(FormRefusal::SecondCounts, 0));
-    }
-    if !form::formula_holds(q, formula(q)) {
-        return HeadRead::Refused(form::refusal(FormRefusal::SecondFormula, 0));
-    }
-    HeadRead::Head(model::counts(s))
-}
-
-// ---- rule 13, over the durations
-
-// What reading an activity's duration answers.
-pub enum DurationRead {
-    Row(u16),
-    Refused(Refusal),
-}
-
-impl DurationRead {
-    // The refusal that it carries, if it does.
-    fn pass(self) -> Pass
-        ensures { λ r. ⌜ passNumbers r ≡ refusalOf (durationReadNumbers self) ⌝ }
-    {
-        match self {
-            DurationRead::Row(_) => Pass::Holds,
-            DurationRead::Refused(x) => Pass::Refused(x),
-        }
-    }
-}
-
-// Activity a's duration, or its refusal: "duration outside its range".
-fn read_duration(s: &[u8], q: &[u8], a: Activity) -> DurationRead
-    ensures { λ r. ⌜ durationReadNumbers r
+// Activity a's duration, or its refusal by rule 13: "duration outside its range".
+fn read_duration(s: &[u8], q: &[u8], a: Activity) -> RowRead
+    ensures { λ r. ⌜ rowReadNumbers r
         ≡ rowAnswer (durationRule (model (now (s .entry))) (choice (now (q .entry)))) (a .0)
-        (choice (now (q .entry)) .duration (a .0)) ⌝ }
+        (Row.Duration (choice (now (q .entry)) .duration (a .0))) ⌝ }
 {
     let number = a.0;
     let chosen = duration(q, a);
     let range = model::activity_row(s, a);
-    if form::within(range.least_duration, range.most_duration, chosen) {
-        DurationRead::Row(chosen)
-    } else {
-        DurationRead::Refused(form::refusal(FormRefusal::DurationChoice, number as u32))
-    }
+    let holds = form::within(range.least_duration, range.most_duration, chosen);
+    rows::answer(
+        holds,
+        Row::Duration(chosen),
+        FormRefusal::DurationChoice,
+        number as u32,
+    )
 }
 
 // Rule 13 over all activities of the model.
-fn read_durations(s: &[u8], q: &[u8], activities: u8) -> Pass
-    requires { ⌜ activities ≡ model (now s) .activities ⌝ }
+fn over_durations(s: &[u8], q: &[u8]) -> Pass
     ensures { λ r. ⌜ passNumbers r ≡ break (durationRule (model (now (s .entry))) (choice (now (q .entry)))) ⌝ }
 {
+    let sizes = model::counts(s);
+    let activities = sizes.activities;
     let mut a: u8 = 0;
     while a < activities {
         let read = read_duration(s, q, Activity(a));
-        let DurationRead::Row(_) = read else {
+        let RowRead::Row(_) = read else {
             return read.pass();
         };
         a += 1;
@@ -132,36 +95,23 @@ fn read_durations(s: &[u8], q: &[u8], activities: u8) -> Pass
     Pass::Holds
 }
 
-// ---- the choice
-
 // What reading a choice beside a model answers.
 pub enum ChoiceRead {
     Choice,
     Refused(Refusal),
 }
 
-// Rules 8 to 13, "in list order".
-fn rules(s: &[u8], q: &[u8]) -> Pass
-    ensures { λ r. ⌜ passNumbers r ≡ firstBreak (choiceForm (model (now (s .entry))) (now (q .entry))) ⌝ }
-{
-    let first = head(s, q);
-    let HeadRead::Head(sizes) = first else {
-        return first.pass();
-    };
-    let timings = timings::read_timings(s, q, ROWS, sizes.threads);
-    if let Pass::Refused(_) = timings {
-        return timings;
-    }
-    read_durations(s, q, sizes.activities)
-}
-
-// Rules 8 to 13, beside the bytes of any model.
+// Rules 8 to 13, "in list order", beside the bytes of any model.
 pub fn read(s: &[u8], q: &[u8]) -> ChoiceRead
     ensures { λ r. ⌜ choiceReadNumbers r ≡ firstBreak (choiceForm (model (now (s .entry))) (now (q .entry))) ⌝ }
 {
-    let pass = rules(s, q);
-    match pass {
-        Pass::Holds => ChoiceRead::Choice,
-        Pass::Refused(x) => ChoiceRead::Refused(x),
+    let shared = form::second(s, q, ROWS, true, formula(q));
+    if let Pass::Refused(x) = shared {
+        return ChoiceRead::Refused(x);
     }
+    let durations = over_durations(s, q);
+    if let Pass::Refused(x) = durations {
+        return ChoiceRead::Refused(x);
+    }
+    ChoiceRead::Choice
 }

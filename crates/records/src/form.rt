@@ -1,18 +1,17 @@
-// What the rules of the three records share: a refusal's place, the answer of a second record's head, the tests of length,
-// version and range, and a word without high bits.
+// What the rules of the three records share: a refusal's place, the four rules that come first, those of a choice or a plan
+// beside a model, and the tests of length, version, range and high bits.
 use crate::Pass;
-use crate::model::Sizes;
+use crate::timings;
 use schedule::FormRefusal;
 use schedule::Place;
 use schedule::Refusal;
 ghost use mathlib.Core.Path.{_≡_};
 ghost use mathlib.Core.Bool.{_&&_};
-ghost use lib.Dec.{eqb, leb};
-ghost use lib.ListN.{length};
+ghost use lib.Dec.{eqb};
 ghost use Rattle.schedule.specs.Fields.{field};
-ghost use Rattle.schedule.specs.Model.{within};
+ghost use Rattle.schedule.specs.Model.{model, within};
 ghost use Rattle.schedule.specs.Numbers.{formNumber, refusalNumbers};
-ghost use Rattle.records.specs.Reads.{refusalIn, refusalOf, passNumbers, headReadNumbers};
+ghost use Rattle.records.specs.Reads.{refusalIn, passNumbers, sized, headBreak, secondBreak};
 ghost use Rattle.records.specs.Rows.{countsHold, noneFrom};
 
 // "A refusal answers its number, A and B", B not named.
@@ -22,27 +21,9 @@ pub(crate) fn refusal(why: FormRefusal, a: u32) -> Refusal
     Refusal::Form(why, Place { a, b: 0 })
 }
 
-// What reading the head of a choice or a plan answers: the model's sizes, with which the rows are read.
-pub(crate) enum HeadRead {
-    Head(Sizes),
-    Refused(Refusal),
-}
-
-impl HeadRead {
-    // The refusal that it carries, if it does.
-    pub(crate) fn pass(self) -> Pass
-        ensures { λ r. ⌜ passNumbers r ≡ refusalOf (headReadNumbers self) ⌝ }
-    {
-        match self {
-            HeadRead::Head(_) => Pass::Holds,
-            HeadRead::Refused(x) => Pass::Refused(x),
-        }
-    }
-}
-
 // At least k bytes, and the length field says how many.
-pub(crate) fn length_holds(s: &[u8], k: usize) -> bool
-    ensures { λ r. ⌜ r ≡ (leb k (length (now (s .entry))) && eqb (field (now (s .entry)) 0 4) (length (now (s .entry)))) ⌝ }
+fn length_holds(s: &[u8], k: usize) -> bool
+    ensures { λ r. ⌜ r ≡ sized k (now (s .entry)) ⌝ }
 {
     if k <= s.len() {
         (fields::be32(s, 0) as usize) == s.len()
@@ -52,27 +33,30 @@ pub(crate) fn length_holds(s: &[u8], k: usize) -> bool
 }
 
 // "then a version byte, 1"
-pub(crate) fn version_holds(s: &[u8]) -> bool
+fn version_holds(s: &[u8]) -> bool
     ensures { λ r. ⌜ r ≡ eqb (field (now (s .entry)) 4 1) 1 ⌝ }
 {
     fields::byte(s, 4) == 1
 }
 
 // The length field is what the formula gives.
-pub(crate) fn formula_holds(s: &[u8], wanted: u32) -> bool
+fn formula_holds(s: &[u8], wanted: u32) -> bool
     ensures { λ r. ⌜ r ≡ eqb (field (now (s .entry)) 0 4) wanted ⌝ }
 {
     fields::be32(s, 0) == wanted
 }
 
-// The second record's n and m are the model's.
-pub(crate) fn counts_hold(s: &[u8], r: &[u8]) -> bool
-    ensures { λ x. ⌜ x ≡ countsHold (now (s .entry)) (now (r .entry)) ⌝ }
+// 10 "its n or m, or a plan's H, differs from the model's", where the test of H, if there is one, is known.
+fn counts_hold(s: &[u8], r: &[u8], further: bool) -> bool
+    ensures { λ x. ⌜ x ≡ (countsHold (now (s .entry)) (now (r .entry)) && further) ⌝ }
 {
     if fields::byte(r, 5) != fields::byte(s, 6) {
         return false;
     }
-    fields::byte(r, 6) == fields::byte(s, 7)
+    if fields::byte(r, 6) != fields::byte(s, 7) {
+        return false;
+    }
+    further
 }
 
 // low ≤ x ≤ high
@@ -87,4 +71,56 @@ pub(crate) fn none_from(word: u32, n: u8) -> bool
     ensures { λ r. ⌜ r ≡ noneFrom word n ⌝ }
 {
     word & !bits::below(n as u32) == 0
+}
+
+// ---- the rules that name no row
+
+// What the four rules that come first are called in a record.
+pub(crate) struct Names {
+    pub(crate) size: FormRefusal,
+    pub(crate) version: FormRefusal,
+    pub(crate) counts: FormRefusal,
+    pub(crate) formula: FormRefusal,
+}
+
+// Rules 1 to 4 of a model and 8 to 11 of a choice or a plan, "in list order": at least that many bytes, the version, the
+// counts as they were found to be, and the length that the formula gives.
+pub(crate) fn head(s: &[u8], names: Names, least: u8, counts: bool, wanted: u32) -> Pass
+    ensures { λ r. ⌜ passNumbers r ≡ headBreak (now (s .entry)) names least counts wanted ⌝ }
+{
+    if !length_holds(s, least as usize) {
+        let why = names.size;
+        return Pass::Refused(refusal(why, 0));
+    }
+    if !version_holds(s) {
+        let why = names.version;
+        return Pass::Refused(refusal(why, 0));
+    }
+    if !counts {
+        let why = names.counts;
+        return Pass::Refused(refusal(why, 0));
+    }
+    if !formula_holds(s, wanted) {
+        let why = names.formula;
+        return Pass::Refused(refusal(why, 0));
+    }
+    Pass::Holds
+}
+
+// Rules 8 to 12, "in list order", of a choice or a plan whose thread rows begin at a position, behind the bytes that it has
+// at least; rule 10 may ask for more than n and m.
+pub(crate) fn second(s: &[u8], r: &[u8], first: u8, further: bool, wanted: u32) -> Pass
+    ensures { λ x. ⌜ passNumbers x ≡ secondBreak (now (s .entry)) (now (r .entry)) first further wanted ⌝ }
+{
+    let names = Names {
+        size: FormRefusal::SecondSize,
+        version: FormRefusal::SecondVersion,
+        counts: FormRefusal::SecondCounts,
+        formula: FormRefusal::SecondFormula,
+    };
+    let head = head(r, names, first, counts_hold(s, r, further), wanted);
+    if let Pass::Refused(_) = head {
+        return head;
+    }
+    timings::over_timings(s, r, first)
 }

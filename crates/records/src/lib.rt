@@ -7,6 +7,7 @@ mod form;
 pub mod grid;
 pub mod model;
 pub mod plan;
+mod rows;
 mod timings;
 
 // What a rule answers that was tried over all its rows: "Each number is tried over all its rows before the next".

@@ -2,17 +2,21 @@
 // 1..4096). Then n thread rows of 10 bytes .. Then m activity rows of 15 bytes".
 use crate::Pass;
 use crate::form;
+use crate::form::Names;
 use crate::plan::Timing;
+use crate::rows;
+use crate::rows::Row;
+use crate::rows::RowRead;
 use schedule::FormRefusal;
 use schedule::Refusal;
 ghost use mathlib.Core.Path.{_≡_};
 ghost use Rattle.schedule.specs.Rule.{break, firstBreak};
 ghost use Rattle.schedule.specs.Answers.{answer};
-ghost use Rattle.schedule.specs.Model.{model, modelForm, modelLength, threadRule, activityRule, maskRule};
+ghost use Rattle.schedule.specs.Model.{model, modelForm, modelLength};
 ghost use Rattle.records.specs.Rows.{sizesOf, threadRowOf, activityRowOf};
 ghost use Rattle.records.specs.Rows.{limitsHold, threadHolds, activityHolds, masksHold, timingHolds};
-ghost use Rattle.records.specs.Reads.{rowAnswer, refusalOf, passNumbers, modelHead};
-ghost use Rattle.records.specs.Reads.{threadReadNumbers, activityReadNumbers, modelReadNumbers};
+ghost use Rattle.records.specs.Reads.{rowAnswer, rowReadNumbers, passNumbers, modelReadNumbers};
+ghost use Rattle.records.specs.RowRules.{rowRule, rowAt, rowRules};
 
 // "A thread number and an activity number are separate countings: priority is looked up by an activity's thread." Only this
 // file makes a Thread, so that elsewhere one comes out of an activity's row and from nowhere else.
@@ -101,7 +105,7 @@ pub fn activity_row(s: &[u8], a: Activity) -> ActivityRow
     }
 }
 
-// ---- rules 1 to 4
+// ---- rules 1 to 4, the tests of the counts
 
 // "3 c, n, m or H outside its limits"
 fn limits_hold(x: Sizes) -> bool
@@ -126,45 +130,7 @@ fn formula(x: Sizes) -> u32
     10 + 10 * (x.threads as u32) + 15 * (x.activities as u32)
 }
 
-// Rules 1 to 4, "in list order": the sizes with which the rows are read.
-fn head(s: &[u8]) -> ModelRead
-    ensures { λ r. ⌜ modelReadNumbers r ≡ answer (firstBreak (modelHead (now (s .entry)))) (sizesOf (model (now (s .entry)))) ⌝ }
-{
-    if !form::length_holds(s, 10) {
-        return ModelRead::Refused(form::refusal(FormRefusal::ModelSize, 0));
-    }
-    if !form::version_holds(s) {
-        return ModelRead::Refused(form::refusal(FormRefusal::ModelVersion, 0));
-    }
-    let sizes = counts(s);
-    if !limits_hold(sizes) {
-        return ModelRead::Refused(form::refusal(FormRefusal::ModelLimits, 0));
-    }
-    if !form::formula_holds(s, formula(sizes)) {
-        return ModelRead::Refused(form::refusal(FormRefusal::ModelFormula, 0));
-    }
-    ModelRead::Model(sizes)
-}
-
-// ---- rule 5, over the thread rows
-
-// What reading a thread row answers.
-pub enum ThreadRead {
-    Row(ThreadRow),
-    Refused(Refusal),
-}
-
-impl ThreadRead {
-    // The refusal that it carries, if it does.
-    fn pass(self) -> Pass
-        ensures { λ r. ⌜ passNumbers r ≡ refusalOf (threadReadNumbers self) ⌝ }
-    {
-        match self {
-            ThreadRead::Row(_) => Pass::Holds,
-            ThreadRead::Refused(x) => Pass::Refused(x),
-        }
-    }
-}
+// ---- rules 5 to 7, over the rows
 
 // "a least above its most, or least period 0 with most above 0"
 fn thread_holds(row: ThreadRow) -> bool
@@ -183,32 +149,120 @@ fn thread_holds(row: ThreadRow) -> bool
     }
 }
 
-// Thread row j, or its refusal.
-fn read_thread(s: &[u8], j: Thread) -> ThreadRead
-    ensures { λ r. ⌜ threadReadNumbers r
-        ≡ rowAnswer (threadRule (model (now (s .entry)))) (j .0) (threadRowOf (model (now (s .entry))) (j .0)) ⌝ }
+// "thread ≥ n, least duration 0, or least above most"
+fn activity_holds(row: ActivityRow, threads: u8) -> bool
+    ensures { λ r. ⌜ r ≡ activityHolds threads row ⌝ }
 {
-    let number = j.0;
-    let row = thread_row(s, j);
-    if thread_holds(row) {
-        ThreadRead::Row(row)
-    } else {
-        ThreadRead::Refused(form::refusal(FormRefusal::ThreadRow, number as u32))
+    let thread = row.thread;
+    if threads <= thread.0 {
+        return false;
+    }
+    if row.least_duration == 0 {
+        return false;
+    }
+    row.least_duration <= row.most_duration
+}
+
+// "a bit at or above its own number in either mask"
+fn masks_hold(row: ActivityRow, number: u8) -> bool
+    ensures { λ r. ⌜ r ≡ masksHold number row ⌝ }
+{
+    if !form::none_from(row.temporal_mask, number) {
+        return false;
+    }
+    form::none_from(row.data_mask, number)
+}
+
+// The rules that are tried at the rows of a model, by name.
+pub(crate) enum RowRule {
+    // 5 "thread row A: a least above its most, or least period 0 with most above 0"
+    Thread,
+    // 6 "activity row A: thread ≥ n, least duration 0, or least above most"
+    Activity,
+    // 7 "row A: a bit at or above its own number in either mask"
+    Masks,
+}
+
+// How many rows a rule is tried at.
+fn rows_of(rule: RowRule, s: &[u8]) -> u8
+    ensures { λ r. ⌜ r ≡ rowRule rule (model (now (s .entry))) .rows ⌝ }
+{
+    let sizes = counts(s);
+    match rule {
+        RowRule::Thread => sizes.threads,
+        RowRule::Activity => sizes.activities,
+        RowRule::Masks => sizes.activities,
     }
 }
 
-// Rule 5 over all thread rows.
-fn read_threads(s: &[u8], threads: u8) -> Pass
-    requires { ⌜ threads ≡ model (now s) .threads ⌝ }
-    ensures { λ r. ⌜ passNumbers r ≡ break (threadRule (model (now (s .entry)))) ⌝ }
+// Row number A of those that a rule is tried at, or its refusal.
+fn read_row(rule: RowRule, s: &[u8], number: u8) -> RowRead
+    ensures { λ r. ⌜ rowReadNumbers r
+        ≡ rowAnswer (rowRule rule (model (now (s .entry)))) number (rowAt rule (model (now (s .entry))) number) ⌝ }
 {
-    let mut j: u8 = 0;
-    while j < threads {
-        let read = read_thread(s, Thread(j));
-        let ThreadRead::Row(_) = read else {
+    match rule {
+        RowRule::Thread => {
+            let row = thread_row(s, Thread(number));
+            let holds = thread_holds(row);
+            rows::answer(
+                holds,
+                Row::Thread(row),
+                FormRefusal::ThreadRow,
+                number as u32,
+            )
+        }
+        RowRule::Activity => {
+            let row = activity_row(s, Activity(number));
+            let holds = activity_holds(row, fields::byte(s, 6));
+            rows::answer(
+                holds,
+                Row::Activity(row),
+                FormRefusal::ActivityRow,
+                number as u32,
+            )
+        }
+        RowRule::Masks => {
+            let row = activity_row(s, Activity(number));
+            let holds = masks_hold(row, number);
+            rows::answer(
+                holds,
+                Row::Activity(row),
+                FormRefusal::MaskRow,
+                number as u32,
+            )
+        }
+    }
+}
+
+// A rule tried at every row: "lowest A first".
+fn over_rows(rule: RowRule, s: &[u8]) -> Pass
+    ensures { λ r. ⌜ passNumbers r ≡ break (rowRule rule (model (now (s .entry)))) ⌝ }
+{
+    let rows = rows_of(rule, s);
+    let mut number: u8 = 0;
+    while number < rows {
+        let read = read_row(rule, s, number);
+        let RowRead::Row(_) = read else {
             return read.pass();
         };
-        j += 1;
+        number += 1;
+    }
+    Pass::Holds
+}
+
+// The rules of rows in their order: "Each number is tried over all its rows before the next".
+fn row_rules(s: &[u8]) -> Pass
+    ensures { λ r. ⌜ passNumbers r ≡ firstBreak (rowRules (model (now (s .entry)))) ⌝ }
+{
+    let order = [RowRule::Thread, RowRule::Activity, RowRule::Masks];
+    let mut k: usize = 0;
+    while k < order.len() {
+        let rule = order[k];
+        let pass = over_rows(rule, s);
+        if let Pass::Refused(_) = pass {
+            return pass;
+        }
+        k += 1;
     }
     Pass::Holds
 }
@@ -224,110 +278,6 @@ pub(crate) fn in_range(s: &[u8], j: u8, x: Timing) -> bool
     form::within(range.least_period, range.most_period, x.period)
 }
 
-// ---- rules 6 and 7, over the activity rows
-
-// What reading an activity row answers.
-pub enum ActivityRead {
-    Row(ActivityRow),
-    Refused(Refusal),
-}
-
-impl ActivityRead {
-    // The refusal that it carries, if it does.
-    fn pass(self) -> Pass
-        ensures { λ r. ⌜ passNumbers r ≡ refusalOf (activityReadNumbers self) ⌝ }
-    {
-        match self {
-            ActivityRead::Row(_) => Pass::Holds,
-            ActivityRead::Refused(x) => Pass::Refused(x),
-        }
-    }
-}
-
-// "thread ≥ n, least duration 0, or least above most"
-fn activity_holds(row: ActivityRow, threads: u8) -> bool
-    ensures { λ r. ⌜ r ≡ activityHolds threads row ⌝ }
-{
-    let thread = row.thread;
-    if threads <= thread.0 {
-        return false;
-    }
-    if row.least_duration == 0 {
-        return false;
-    }
-    row.least_duration <= row.most_duration
-}
-
-// Activity row a, or its refusal by rule 6.
-fn read_activity(s: &[u8], a: Activity) -> ActivityRead
-    ensures { λ r. ⌜ activityReadNumbers r
-        ≡ rowAnswer (activityRule (model (now (s .entry)))) (a .0) (activityRowOf (model (now (s .entry))) (a .0)) ⌝ }
-{
-    let number = a.0;
-    let row = activity_row(s, a);
-    if activity_holds(row, fields::byte(s, 6)) {
-        ActivityRead::Row(row)
-    } else {
-        ActivityRead::Refused(form::refusal(FormRefusal::ActivityRow, number as u32))
-    }
-}
-
-// Rule 6 over all activity rows.
-fn read_activities(s: &[u8], activities: u8) -> Pass
-    requires { ⌜ activities ≡ model (now s) .activities ⌝ }
-    ensures { λ r. ⌜ passNumbers r ≡ break (activityRule (model (now (s .entry)))) ⌝ }
-{
-    let mut a: u8 = 0;
-    while a < activities {
-        let read = read_activity(s, Activity(a));
-        let ActivityRead::Row(_) = read else {
-            return read.pass();
-        };
-        a += 1;
-    }
-    Pass::Holds
-}
-
-// "a bit at or above its own number in either mask"
-fn masks_hold(row: ActivityRow, number: u8) -> bool
-    ensures { λ r. ⌜ r ≡ masksHold number row ⌝ }
-{
-    if !form::none_from(row.temporal_mask, number) {
-        return false;
-    }
-    form::none_from(row.data_mask, number)
-}
-
-// Activity row a, or its refusal by rule 7.
-fn read_masks(s: &[u8], a: Activity) -> ActivityRead
-    ensures { λ r. ⌜ activityReadNumbers r
-        ≡ rowAnswer (maskRule (model (now (s .entry)))) (a .0) (activityRowOf (model (now (s .entry))) (a .0)) ⌝ }
-{
-    let number = a.0;
-    let row = activity_row(s, a);
-    if masks_hold(row, number) {
-        ActivityRead::Row(row)
-    } else {
-        ActivityRead::Refused(form::refusal(FormRefusal::MaskRow, number as u32))
-    }
-}
-
-// Rule 7 over all activity rows, after rule 6.
-fn read_all_masks(s: &[u8], activities: u8) -> Pass
-    requires { ⌜ activities ≡ model (now s) .activities ⌝ }
-    ensures { λ r. ⌜ passNumbers r ≡ break (maskRule (model (now (s .entry)))) ⌝ }
-{
-    let mut a: u8 = 0;
-    while a < activities {
-        let read = read_masks(s, Activity(a));
-        let ActivityRead::Row(_) = read else {
-            return read.pass();
-        };
-        a += 1;
-    }
-    Pass::Holds
-}
-
 // ---- the model
 
 // What reading a model answers.
@@ -336,24 +286,23 @@ pub enum ModelRead {
     Refused(Refusal),
 }
 
-// "The model is tried first, in list order": rules 1 to 7.
+// "The model is tried first, in list order": rules 1 to 4, then those of the rows.
 pub fn read(s: &[u8]) -> ModelRead
     ensures { λ r. ⌜ modelReadNumbers r ≡ answer (firstBreak (modelForm (now (s .entry)))) (sizesOf (model (now (s .entry)))) ⌝ }
 {
-    let first = head(s);
-    let ModelRead::Model(sizes) = first else {
-        return first;
+    let sizes = counts(s);
+    let names = Names {
+        size: FormRefusal::ModelSize,
+        version: FormRefusal::ModelVersion,
+        counts: FormRefusal::ModelLimits,
+        formula: FormRefusal::ModelFormula,
     };
-    let threads = read_threads(s, sizes.threads);
-    if let Pass::Refused(x) = threads {
+    let head = form::head(s, names, 10, limits_hold(sizes), formula(sizes));
+    if let Pass::Refused(x) = head {
         return ModelRead::Refused(x);
     }
-    let activities = read_activities(s, sizes.activities);
-    if let Pass::Refused(x) = activities {
-        return ModelRead::Refused(x);
-    }
-    let masks = read_all_masks(s, sizes.activities);
-    if let Pass::Refused(x) = masks {
+    let rows = row_rules(s);
+    if let Pass::Refused(x) = rows {
         return ModelRead::Refused(x);
     }
     ModelRead::Model(sizes)

@@ -2,11 +2,13 @@
 // bytes".
 use crate::Pass;
 use crate::form;
-use crate::form::HeadRead;
 use crate::grid;
 use crate::model;
 use crate::model::Activity;
 use crate::model::Thread;
+use crate::rows;
+use crate::rows::Row;
+use crate::rows::RowRead;
 use crate::timings;
 use schedule::FormRefusal;
 use schedule::Refusal;
@@ -18,11 +20,9 @@ ghost use Rattle.schedule.specs.Rule.{break, firstBreak};
 ghost use Rattle.schedule.specs.Model.{model};
 ghost use Rattle.schedule.specs.Plan.{plan, planForm, planThreadRow, planActivityRow, gridAt, planLength, wordRule};
 ghost use Rattle.fields.specs.Put.{put};
-ghost use Rattle.schedule.specs.Answers.{answer};
-ghost use Rattle.records.specs.Rows.{sizesOf, planSizesOf, timing, spanOf, horizonHolds};
+ghost use Rattle.records.specs.Rows.{planSizesOf, timing, spanOf, horizonHolds};
 ghost use Rattle.records.specs.Writes.{headBytes};
-ghost use Rattle.records.specs.Reads.{rowAnswer, refusalOf, passNumbers, headReadNumbers, planHead};
-ghost use Rattle.records.specs.Reads.{wordReadNumbers, planReadNumbers};
+ghost use Rattle.records.specs.Reads.{rowAnswer, rowReadNumbers, passNumbers, planReadNumbers};
 
 // The counts at the head of a plan.
 pub struct PlanSizes {
@@ -176,15 +176,12 @@ pub fn put_activity_row(out: &mut [u8], threads: u8, a: Activity, row: Span)
     put_pair(out, activity_at(threads, number), row.start, row.end);
 }
 
-// ---- rules 8 to 11
+// ---- rules 8 to 12 and 14
 
-// "its n or m, or a plan's H, differs from the model's"
-fn counts_hold(s: &[u8], r: &[u8]) -> bool
+// 10 "a plan's H differs from the model's"
+fn horizon_holds(s: &[u8], r: &[u8]) -> bool
     ensures { λ x. ⌜ x ≡ horizonHolds (now (s .entry)) (now (r .entry)) ⌝ }
 {
-    if !form::counts_hold(s, r) {
-        return false;
-    }
     fields::be16(r, 7) == fields::be16(s, 8)
 }
 
@@ -197,68 +194,27 @@ fn formula(r: &[u8]) -> u32
     length(sizes.threads, sizes.activities, sizes.horizon)
 }
 
-// Rules 8 to 11, "in list order".
-fn head(s: &[u8], r: &[u8]) -> HeadRead
-    ensures { λ x. ⌜ headReadNumbers x
-        ≡ answer (firstBreak (planHead (model (now (s .entry))) (now (r .entry)))) (sizesOf (model (now (s .entry)))) ⌝ }
-{
-    if !form::length_holds(r, 9) {
-        return HeadRead::Refused(form::refusal(FormRefusal::SecondSize, 0));
-    }
-    if !form::version_holds(r) {
-        return HeadRead::Refused(form::refusal(FormRefusal::SecondVersion, 0));
-    }
-    if !counts_hold(s, r) {
-        return HeadRead::Refused(form::refusal(FormRefusal::SecondCounts, 0));
-    }
-    if !form::formula_holds(r, formula(r)) {
-        return HeadRead::Refused(form::refusal(FormRefusal::SecondFormula, 0));
-    }
-    HeadRead::Head(model::counts(s))
-}
-
-// ---- rule 14, over the ticks
-
-// What reading a tick's word answers.
-pub enum WordRead {
-    Row(u32),
-    Refused(Refusal),
-}
-
-impl WordRead {
-    // The refusal that it carries, if it does.
-    fn pass(self) -> Pass
-        ensures { λ r. ⌜ passNumbers r ≡ refusalOf (wordReadNumbers self) ⌝ }
-    {
-        match self {
-            WordRead::Row(_) => Pass::Holds,
-            WordRead::Refused(x) => Pass::Refused(x),
-        }
-    }
-}
-
-// The word of tick t, or its refusal: "a bit at or above m".
-fn read_word(s: &[u8], r: &[u8], t: u16) -> WordRead
-    ensures { λ x. ⌜ wordReadNumbers x
-        ≡ rowAnswer (wordRule (model (now (s .entry))) (plan (now (r .entry)))) t (plan (now (r .entry)) .word t) ⌝ }
+// The word of tick t, or its refusal by rule 14: "a bit at or above m".
+fn read_word(s: &[u8], r: &[u8], t: u16) -> RowRead
+    ensures { λ x. ⌜ rowReadNumbers x
+        ≡ rowAnswer (wordRule (model (now (s .entry))) (plan (now (r .entry)))) t
+        (Row.Word (plan (now (r .entry)) .word t)) ⌝ }
 {
     let active = word(r, t);
-    if form::none_from(active, fields::byte(s, 7)) {
-        WordRead::Row(active)
-    } else {
-        WordRead::Refused(form::refusal(FormRefusal::WordBits, t as u32))
-    }
+    let holds = form::none_from(active, fields::byte(s, 7));
+    rows::answer(holds, Row::Word(active), FormRefusal::WordBits, t as u32)
 }
 
 // Rule 14 over all ticks of the model.
-fn read_words(s: &[u8], r: &[u8], horizon: u16) -> Pass
-    requires { ⌜ horizon ≡ model (now s) .horizon ⌝ }
+fn over_words(s: &[u8], r: &[u8]) -> Pass
     ensures { λ x. ⌜ passNumbers x ≡ break (wordRule (model (now (s .entry))) (plan (now (r .entry)))) ⌝ }
 {
+    let sizes = model::counts(s);
+    let horizon = sizes.horizon;
     let mut t: u16 = 0;
     while t < horizon {
         let read = read_word(s, r, t);
-        let WordRead::Row(_) = read else {
+        let RowRead::Row(_) = read else {
             return read.pass();
         };
         t += 1;
@@ -266,36 +222,23 @@ fn read_words(s: &[u8], r: &[u8], horizon: u16) -> Pass
     Pass::Holds
 }
 
-// ---- the plan
-
 // What reading a plan beside a model answers.
 pub enum PlanRead {
     Plan,
     Refused(Refusal),
 }
 
-// Rules 8 to 12 and 14, "in list order".
-fn rules(s: &[u8], r: &[u8]) -> Pass
-    ensures { λ x. ⌜ passNumbers x ≡ firstBreak (planForm (model (now (s .entry))) (now (r .entry))) ⌝ }
-{
-    let first = head(s, r);
-    let HeadRead::Head(sizes) = first else {
-        return first.pass();
-    };
-    let timings = timings::read_timings(s, r, ROWS, sizes.threads);
-    if let Pass::Refused(_) = timings {
-        return timings;
-    }
-    read_words(s, r, sizes.horizon)
-}
-
-// Rules 8 to 12 and 14, beside the bytes of any model.
+// Rules 8 to 12 and 14, "in list order", beside the bytes of any model.
 pub fn read(s: &[u8], r: &[u8]) -> PlanRead
     ensures { λ x. ⌜ planReadNumbers x ≡ firstBreak (planForm (model (now (s .entry))) (now (r .entry))) ⌝ }
 {
-    let pass = rules(s, r);
-    match pass {
-        Pass::Holds => PlanRead::Plan,
-        Pass::Refused(x) => PlanRead::Refused(x),
+    let shared = form::second(s, r, ROWS, horizon_holds(s, r), formula(r));
+    if let Pass::Refused(x) = shared {
+        return PlanRead::Refused(x);
     }
+    let words = over_words(s, r);
+    if let Pass::Refused(x) = words {
+        return PlanRead::Refused(x);
+    }
+    PlanRead::Plan
 }

@@ -25,15 +25,30 @@ byte-requires-4 c κs = search needs
 returns-2 : tie.Need-returns-2
 unfolding countsHold
 returns-2 c =
+    let c3 = c .before .before .before in
     rw (
-      ← c .before .before .before .before .byte .ensures,
-      ← c .before .before .before .byte2 .ensures,
-      eq-eqb _ _ (c .before .before .if1 .left),
-      ← c .before .byte3 .ensures,
-      ← c .byte4 .ensures,
+      ← c3 .before .before .byte .ensures,
+      ← c3 .before .byte2 .ensures,
+      eq-eqb _ _ (c3 .if1 .left),
+      ← c .before .before .byte3 .ensures,
+      ← c .before .byte4 .ensures,
+      ne-eqb _ _ (c .if2 .taken),
+    )
+
+returns-3 : tie.Need-returns-3
+unfolding countsHold
+returns-3 c =
+    let c3 = c .before .before .before in
+    rw (
+      ← c3 .before .before .byte .ensures,
+      ← c3 .before .byte2 .ensures,
+      eq-eqb _ _ (c3 .if1 .left),
+      ← c .before .before .byte3 .ensures,
+      ← c .before .byte4 .ensures,
+      eq-eqb _ _ (c .if2 .left),
     )
 
 pub counts-hold-spec : {M : Type 1} → statement M
 counts-hold-spec =
     tie.close
-    (tie.spec byte-requires byte-requires-2 returns byte-requires-3 byte-requires-4 returns-2)
+    (tie.spec byte-requires byte-requires-2 returns byte-requires-3 byte-requires-4 returns-2 returns-3)

@@ -1,11 +1,7 @@
 -- `plan::read_word` meets its contract: the test of the word that was read is rule 14's.
 -- Assumes nothing.
-use mathlib.Core.Path.{sym, ap₂, _∙_}
 use Rattle.schedule.specs.Model.{model}
-use Rattle.schedule.specs.Plan.{plan, wordRule}
-use Rattle.records.specs.Rows.{noneFrom}
-use Rattle.records.proofs.Reading.{row-passes, row-fails}
-use Rattle.records.proofs.RowTests.{word-test}
+use Rattle.records.proofs.RowTests.{word-answered}
 use borrow.Author.Needs.{needs}
 use Rattle.records.proofs.plan.read_word.Statement.{statement}
 use Rattle.records.proofs.plan.read_word.Tie as tie
@@ -19,30 +15,15 @@ byte-requires c κs = search needs
 none-from-requires : tie.Need-none-from-requires
 none-from-requires c κs = search needs
 
-refusal-requires : tie.Need-refusal-requires
-refusal-requires c κs = search needs
+answer-requires : tie.Need-answer-requires
+answer-requires c κs = search needs
 
 returns : tie.Need-returns
 unfolding model
 returns c =
-    let x = c .before .before .before .before .before .before .args in
-    let m = model (x .s .now) in
-    let p = plan (x .r .now) in
-    let word = c .before .before .before .word .ensures in
-    let test = word-test m p (x .t) ∙ ap₂ noneFrom (sym word) (sym (c .before .before .byte .ensures)) in
-    row-passes (wordRule m p) _ _ _ (test ∙ sym (c .before .none-from .ensures) ∙ c .if1 .taken) word
-
-returns-2 : tie.Need-returns-2
-unfolding wordRule model
-returns-2 c =
-    let x = c .before .before .before .before .before .before .before .args in
-    let m = model (x .s .now) in
-    let p = plan (x .r .now) in
-    let word = c .before .before .before .before .word .ensures in
-    let test = word-test m p (x .t) ∙ ap₂ noneFrom (sym word) (sym (c .before .before .before .byte .ensures)) in
-    row-fails (wordRule m p) _ _ _ (test ∙ sym (c .before .before .none-from .ensures) ∙ c .before .if1 .left) (c .refusal .ensures)
+    let c2 = c .before .before in
+    word-answered _ _ _ _ _ _ _ (c2 .before .word .ensures) (c2 .byte .ensures) (c .before .none-from .ensures)
+    (c .answer .ensures)
 
 pub read-word-spec : {M : Type 1} → statement M
-read-word-spec =
-    tie.close
-    (tie.spec word-requires byte-requires none-from-requires refusal-requires returns returns-2)
+read-word-spec = tie.close (tie.spec word-requires byte-requires none-from-requires answer-requires returns)

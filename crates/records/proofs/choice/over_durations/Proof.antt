@@ -1,0 +1,85 @@
+-- `choice::over_durations` meets its contract. The invariant: no duration before a breaks rule 13. The measure is what is left of
+-- them.
+-- Assumes nothing.
+use Prim.Native.Nat.{_-_, _≤_}
+use native.Mathlib.Omega.{arith}
+use mathlib.Core.Path.{refl, sym, ap}
+use Rattle.schedule.specs.Model.{model}
+use Rattle.schedule.specs.Choice.{choice, durationRule}
+use Rattle.laws.proofs.RowLaws.{ClearTo, clear-start}
+use Rattle.records.specs.declared.model.Sizes.{Sizes}
+use Rattle.records.specs.Rows.{sizesOf}
+use Rattle.records.proofs.Reading.{row-refused, row-taken, rows-end}
+use borrow.Author.Needs.{needs}
+use Rattle.records.proofs.choice.over_durations.Statement.{statement}
+use Rattle.records.proofs.choice.over_durations.Tie as tie
+
+abbrev Inv-loop : tie.InvT-loop
+Inv-loop s q activities a₀ a = (a ≤ activities) × ClearTo (durationRule (model s) (choice q)) a
+
+abbrev μ-loop : tie.MeasureT-loop
+μ-loop s q activities a₀ a = activities - a
+
+counts-requires : tie.Need-counts-requires Inv-loop μ-loop
+counts-requires c κs = search needs
+
+loop-holds : tie.Need-loop-holds Inv-loop μ-loop
+loop-holds c = (omega arith, clear-start _)
+
+read-duration-requires : tie.Need-read-duration-requires Inv-loop μ-loop
+read-duration-requires c κs = search needs
+
+enum-told : tie.Need-enum-told Inv-loop μ-loop
+enum-told c = search needs
+
+enum-told-2 : tie.Need-enum-told-2 Inv-loop μ-loop
+enum-told-2 c = search needs
+
+pass-requires : tie.Need-pass-requires Inv-loop μ-loop
+pass-requires c κs = search needs
+
+returns : tie.Need-returns Inv-loop μ-loop
+unfolding durationRule sizesOf
+returns c =
+    let c5 = c .before .before .before .before .before in
+    row-refused _ _ _ _ refl (c5 .loop .inv .1) (c .before .before .before .read-duration .ensures) _ _
+    (omega (arith, ap (λ (y : Sizes). y .activities) (c5 .before .counts .ensures)))
+    (c .before .enum-told2 .given .1) (c .pass .ensures)
+
+add-a : tie.Need-add-a Inv-loop μ-loop
+add-a c = omega arith
+
+loop-less : tie.Need-loop-less Inv-loop μ-loop
+loop-less c = omega arith
+
+loop-again : tie.Need-loop-again Inv-loop μ-loop
+unfolding durationRule
+loop-again c =
+    let a = c .before .before .before .before .loop in (
+      omega arith,
+      row-taken _ _ _ _ refl (a .inv .1) (c .before .before .read-duration .ensures) _ (c .enum-told .given .1),
+    )
+
+returns-2 : tie.Need-returns-2 Inv-loop μ-loop
+unfolding durationRule sizesOf
+returns-2 c =
+    let whole = ap (λ (y : Sizes). y .activities) (c .before .before .counts .ensures) in
+    sym (rows-end _ _ (omega (arith, whole)) (c .before .loop .inv .1))
+
+pub over-durations-spec : {M : Type 1} → statement M
+over-durations-spec =
+    tie.close
+    (tie.spec
+    Inv-loop
+    μ-loop
+    counts-requires
+    loop-holds
+    read-duration-requires
+    enum-told
+    enum-told-2
+    pass-requires
+    returns
+    add-a
+    loop-less
+    loop-again
+    returns-2)
