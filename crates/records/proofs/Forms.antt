@@ -10,7 +10,8 @@ use Rattle.schedule.specs.Model.{model, modelLength, modelForm, lengthRule, ver
 use Rattle.schedule.specs.Choice.{choice, choiceLength, choiceForm, choiceCounts, durationRule}
 use Rattle.schedule.specs.Plan.{plan, planLength, planForm, planCounts, wordRule}
 use Rattle.records.specs.declared.model.Sizes.{Sizes}
-use Rattle.records.specs.Rows.{limitsHold, sizesOf, countsHold, horizonHolds}
+use Rattle.records.specs.declared.plan.PlanSizes.{PlanSizes}
+use Rattle.records.specs.Rows.{limitsHold, sizesOf, planSizesOf, countsHold, horizonHolds}
 use Rattle.records.specs.Reads.{pick, orElse, headBreak, modelNames, secondBreak}
 use Rattle.records.specs.RowRules.{rowRules}
 use Rattle.records.proofs.Reading.{orElse-assoc, orElse-none, orElse-pick, rule-end, rule-next, rule-picked}
@@ -84,9 +85,9 @@ choice-form s q wanted w =
     rw w (four-and-two _ _ _ _ _ _ _ (refl, refl) (refl, refl) (refl, refl) (refl, refl) (and-true _))
 
 -- rules 8 to 12 and 14 of a plan
-pub plan-form : (s r : List ℕ) (further : Bool) (wanted : ℕ) → further ≡ horizonHolds s r
-    → wanted ≡ planLength (plan r .threads) (plan r .activities) (plan r .horizon)
+pub plan-form : (s r : List ℕ) (sizes : PlanSizes) (further : Bool) (wanted : ℕ) → sizes ≡ planSizesOf (plan r)
+    → further ≡ horizonHolds s r → wanted ≡ planLength (sizes .threads) (sizes .activities) (sizes .horizon)
     → firstBreak (planForm (model s) r) ≡ orElse (secondBreak s r 9 further wanted) (break (wordRule (model s) (plan r)))
-unfolding planForm headBreak lengthRule versionRule planCounts formulaRule countsHold horizonHolds model plan
-plan-form s r further wanted t w =
-    rw (w, t) (four-and-two _ _ _ _ _ _ _ (refl, refl) (refl, refl) (refl, refl) (refl, refl) refl)
+unfolding planForm headBreak lengthRule versionRule planCounts formulaRule countsHold horizonHolds planSizesOf model plan
+plan-form s r sizes further wanted e t w =
+    rw (w, t, e) (four-and-two _ _ _ _ _ _ _ (refl, refl) (refl, refl) (refl, refl) (refl, refl) refl)

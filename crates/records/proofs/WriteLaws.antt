@@ -15,6 +15,10 @@ use Rattle.fields.specs.Put.{put}
 use Rattle.fields.proofs.PutLaws.{put-nil, put-out, put-after}
 use Rattle.records.specs.Writes.{headBytes}
 
+-- bytes at a place that was told
+pub put-at : (at told : ℕ) (b l out : List ℕ) → out ≡ put at b l → at ≡ told → out ≡ put told b l
+put-at at told b l out e same = e ∙ ap (λ (i : ℕ). put i b l) same
+
 -- ---- a row
 
 -- two fields of 2 bytes

@@ -200,36 +200,22 @@ fn read_row(rule: RowRule, s: &[u8], number: u8) -> RowRead
     ensures { λ r. ⌜ rowReadNumbers r
         ≡ rowAnswer (rowRule rule (model (now (s .entry)))) number (rowAt rule (model (now (s .entry))) number) ⌝ }
 {
+    let a = number as u32;
     match rule {
         RowRule::Thread => {
             let row = thread_row(s, Thread(number));
             let holds = thread_holds(row);
-            rows::answer(
-                holds,
-                Row::Thread(row),
-                FormRefusal::ThreadRow,
-                number as u32,
-            )
+            rows::answer(holds, Row::Thread(row), FormRefusal::ThreadRow, a)
         }
         RowRule::Activity => {
             let row = activity_row(s, Activity(number));
             let holds = activity_holds(row, fields::byte(s, 6));
-            rows::answer(
-                holds,
-                Row::Activity(row),
-                FormRefusal::ActivityRow,
-                number as u32,
-            )
+            rows::answer(holds, Row::Activity(row), FormRefusal::ActivityRow, a)
         }
         RowRule::Masks => {
             let row = activity_row(s, Activity(number));
             let holds = masks_hold(row, number);
-            rows::answer(
-                holds,
-                Row::Activity(row),
-                FormRefusal::MaskRow,
-                number as u32,
-            )
+            rows::answer(holds, Row::Activity(row), FormRefusal::MaskRow, a)
         }
     }
 }

@@ -185,15 +185,6 @@ fn horizon_holds(s: &[u8], r: &[u8]) -> bool
     fields::be16(r, 7) == fields::be16(s, 8)
 }
 
-// The length that the counts give.
-fn formula(r: &[u8]) -> u32
-    ensures { λ x. ⌜ x ≡ planLength (plan (now (r .entry)) .threads) (plan (now (r .entry)) .activities)
-        (plan (now (r .entry)) .horizon) ⌝ }
-{
-    let sizes = counts(r);
-    length(sizes.threads, sizes.activities, sizes.horizon)
-}
-
 // The word of tick t, or its refusal by rule 14: "a bit at or above m".
 fn read_word(s: &[u8], r: &[u8], t: u16) -> RowRead
     ensures { λ x. ⌜ rowReadNumbers x
@@ -232,7 +223,9 @@ pub enum PlanRead {
 pub fn read(s: &[u8], r: &[u8]) -> PlanRead
     ensures { λ x. ⌜ planReadNumbers x ≡ firstBreak (planForm (model (now (s .entry))) (now (r .entry))) ⌝ }
 {
-    let shared = form::second(s, r, ROWS, horizon_holds(s, r), formula(r));
+    let sizes = counts(r);
+    let wanted = length(sizes.threads, sizes.activities, sizes.horizon);
+    let shared = form::second(s, r, ROWS, horizon_holds(s, r), wanted);
     if let Pass::Refused(x) = shared {
         return PlanRead::Refused(x);
     }

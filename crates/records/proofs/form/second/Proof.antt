@@ -34,10 +34,11 @@ over-timings-requires c κs = search needs
 
 returns-2 : tie.Need-returns-2
 returns-2 c =
-    let c4 = c .before .before .before .before in
+    let c3 = c .before .before .before in
+    let c4 = c3 .before in
     let x = c4 .before .before .before .args in
     pass-goes-on _ _ _ _
-    (c .before .before .before .head .ensures
+    (c3 .head .ensures
     ∙ ap (λ (t : Bool). headBreak (x .r .now) secondNames (x .first) t (x .wanted)) (c4 .counts-hold .ensures))
     (c .before .enum-told2 .given .1) (c .over-timings .ensures)
 

@@ -1,11 +1,7 @@
 -- `grid::put_word` meets its contract: the word at its place, where it fits whole.
 -- Assumes nothing.
-use Prim.Native.Nat.{ℕ}
 use native.Mathlib.Omega.{arith}
-use mathlib.Core.Path.{ap, _∙_}
-use Rattle.schedule.specs.Fields.{bytes}
-use Rattle.fields.specs.Put.{put}
-use Rattle.records.proofs.WriteLaws.{word-out}
+use Rattle.records.proofs.WriteLaws.{put-at, word-out}
 use borrow.Author.Needs.{needs}
 use Rattle.records.proofs.grid.put_word.Statement.{statement}
 use Rattle.records.proofs.grid.put_word.Tie as tie
@@ -21,10 +17,7 @@ same-length c = search needs
 
 returns : tie.Need-returns
 returns c =
-    let c3 = c .before .before .before in
-    let x = c3 .before .before .before .before .args in
-    c .before .before .put32 .ensures
-    ∙ ap (λ (i : ℕ). put i (bytes 4 (x .word)) (x .grid .now)) (c3 .tick-at .ensures)
+    put-at _ _ _ _ _ (c .before .before .put32 .ensures) (c .before .before .before .tick-at .ensures)
 
 returns-2 : tie.Need-returns-2
 returns-2 c =

@@ -17,9 +17,10 @@ returns-2 c = simp (lt-ltb _ _ (c .before .before .if1 .left), c .if2 .taken)
 returns-3 : tie.Need-returns-3
 unfolding activityHolds
 returns-3 c =
+    let c3 = c .before .before .before in
     simp (
-      lt-ltb _ _ (c .before .before .before .if1 .left),
-      le-leb 1 (c .before .before .before .before .before .before .args .row .«least_duration») (omega arith),
+      lt-ltb _ _ (c3 .if1 .left),
+      le-leb 1 (c3 .before .before .before .args .row .«least_duration») (omega arith),
     )
 
 pub activity-holds-spec : {M : Type 1} → statement M

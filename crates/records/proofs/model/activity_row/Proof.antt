@@ -63,12 +63,14 @@ be32-requires-2 c κs = search needs
 returns : tie.Need-returns
 unfolding activityRowOf model
 returns c =
+    let c2 = c .before .before in
+    let c4 = c2 .before .before in
     rw (
-      ← c .before .before .before .before .before .before .byte .ensures,
-      ← c .before .before .before .before .before .byte2 .ensures,
-      ← c .before .before .before .before .be16 .ensures,
-      ← c .before .before .before .be162 .ensures,
-      ← c .before .before .be163 .ensures,
+      ← c4 .before .before .byte .ensures,
+      ← c4 .before .byte2 .ensures,
+      ← c4 .be16 .ensures,
+      ← c2 .before .be162 .ensures,
+      ← c2 .be163 .ensures,
       ← c .before .be32 .ensures,
       ← c .be322 .ensures,
     )

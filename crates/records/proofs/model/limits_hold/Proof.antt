@@ -25,8 +25,9 @@ within-requires-2 c κs = search needs
 returns-2 : tie.Need-returns-2
 unfolding limitsHold
 returns-2 c =
+    let c3 = c .before .before .before in
     rw (
-      told-yes (c .before .before .before .before .within .ensures) (c .before .before .before .if1 .left),
+      told-yes (c3 .before .within .ensures) (c3 .if1 .left),
       told-no (c .before .within2 .ensures) (c .if2 .taken),
     )
 
@@ -39,11 +40,11 @@ within-requires-3 c κs = search needs
 returns-3 : tie.Need-returns-3
 unfolding limitsHold
 returns-3 c =
+    let c3 = c .before .before .before in
+    let c6 = c3 .before .before .before in
     rw (
-      told-yes
-          (c .before .before .before .before .before .before .before .within .ensures)
-          (c .before .before .before .before .before .before .if1 .left),
-      told-yes (c .before .before .before .before .within2 .ensures) (c .before .before .before .if2 .left),
+      told-yes (c6 .before .within .ensures) (c6 .if1 .left),
+      told-yes (c3 .before .within2 .ensures) (c3 .if2 .left),
       told-no (c .before .within3 .ensures) (c .if3 .taken),
     )
 
@@ -53,13 +54,11 @@ within-requires-4 c κs = search needs
 returns-4 : tie.Need-returns-4
 unfolding limitsHold
 returns-4 c =
+    let c4 = c .before .before .before .before in
+    let c7 = c4 .before .before .before in
     rw (
-      told-yes
-          (c .before .before .before .before .before .before .before .before .within .ensures)
-          (c .before .before .before .before .before .before .before .if1 .left),
-      told-yes
-          (c .before .before .before .before .before .within2 .ensures)
-          (c .before .before .before .before .if2 .left),
+      told-yes (c7 .before .within .ensures) (c7 .if1 .left),
+      told-yes (c4 .before .within2 .ensures) (c4 .if2 .left),
       told-yes (c .before .before .within3 .ensures) (c .before .if3 .left),
     ) (c .within4 .ensures)
 

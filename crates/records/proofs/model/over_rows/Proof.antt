@@ -39,10 +39,11 @@ pass-requires c κs = search needs
 
 returns : tie.Need-returns Inv-loop μ-loop
 returns c =
-    let c5 = c .before .before .before .before .before in
+    let c3 = c .before .before .before in
+    let c5 = c3 .before .before in
     let x = c5 .before .before .before .args in
     row-refused _ _ _ _ (row-columns (x .rule) (model (x .s .now))) (c5 .loop .inv .1)
-    (c .before .before .before .read-row .ensures) _ _ (omega (arith, c5 .before .rows-of .ensures))
+    (c3 .read-row .ensures) _ _ (omega (arith, c5 .before .rows-of .ensures))
     (c .before .enum-told2 .given .1) (c .pass .ensures)
 
 add-number : tie.Need-add-number Inv-loop μ-loop

@@ -16,18 +16,20 @@ returns-2 c = simp (le-leb _ _ (c .before .before .if1 .left), lt-leb _ _ (c .if
 returns-3 : tie.Need-returns-3
 unfolding threadHolds
 returns-3 c =
+    let c3 = c .before .before .before in
     rw (
-      le-leb _ _ (c .before .before .before .before .before .if1 .left),
-      le-leb _ _ (c .before .before .before .if2 .left),
+      le-leb _ _ (c3 .before .before .if1 .left),
+      le-leb _ _ (c3 .if2 .left),
       eq-eqb _ _ (c .before .if3 .taken),
     )
 
 returns-4 : tie.Need-returns-4
 unfolding threadHolds
 returns-4 c =
+    let c2 = c .before .before in
     simp (
-      le-leb _ _ (c .before .before .before .before .if1 .left),
-      le-leb _ _ (c .before .before .if2 .left),
+      le-leb _ _ (c2 .before .before .if1 .left),
+      le-leb _ _ (c2 .if2 .left),
       ne-eqb _ _ (c .if3 .left),
     )
 

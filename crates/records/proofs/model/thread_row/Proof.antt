@@ -45,10 +45,11 @@ be16-requires-5 c κs = search needs
 returns : tie.Need-returns
 unfolding threadRowOf model
 returns c =
+    let c2 = c .before .before in
     rw (
-      ← c .before .before .before .before .be16 .ensures,
-      ← c .before .before .before .be162 .ensures,
-      ← c .before .before .be163 .ensures,
+      ← c2 .before .before .be16 .ensures,
+      ← c2 .before .be162 .ensures,
+      ← c2 .be163 .ensures,
       ← c .before .be164 .ensures,
       ← c .be165 .ensures,
     )

@@ -6,11 +6,14 @@ use borrow.Author.Needs.{needs}
 use Rattle.records.proofs.plan.read.Statement.{statement}
 use Rattle.records.proofs.plan.read.Tie as tie
 
+counts-requires : tie.Need-counts-requires
+counts-requires c κs = search needs
+
+length-requires : tie.Need-length-requires
+length-requires c κs = search needs
+
 horizon-holds-requires : tie.Need-horizon-holds-requires
 horizon-holds-requires c κs = search needs
-
-formula-requires : tie.Need-formula-requires
-formula-requires c κs = search needs
 
 second-requires : tie.Need-second-requires
 second-requires c κs = search needs
@@ -21,8 +24,9 @@ enum-known-shared c = search needs
 returns : tie.Need-returns
 returns c =
     let c3 = c .before .before .before in
-    first-refused _ _ _ _ (c3 .second .ensures)
-    (plan-form _ _ _ _ (c3 .before .before .horizon-holds .ensures) (c3 .before .formula .ensures)) _ (c .before .shared .given .1)
+    let c5 = c3 .before .before in
+    let form = plan-form _ _ _ _ _ (c5 .before .counts .ensures) (c3 .before .horizon-holds .ensures) (c5 .length .ensures) in
+    first-refused _ _ _ _ (c3 .second .ensures) form _ (c .before .shared .given .1)
 
 enum-told : tie.Need-enum-told
 enum-told c = search needs
@@ -37,8 +41,9 @@ returns-2 : tie.Need-returns-2
 returns-2 c =
     let c3 = c .before .before .before in
     let c6 = c3 .before .before .before in
-    second-refused _ _ _ _ (c6 .second .ensures)
-    (plan-form _ _ _ _ (c6 .before .before .horizon-holds .ensures) (c6 .before .formula .ensures)) (c3 .before .enum-told .given .1)
+    let c8 = c6 .before .before in
+    let form = plan-form _ _ _ _ _ (c8 .before .counts .ensures) (c6 .before .horizon-holds .ensures) (c8 .length .ensures) in
+    second-refused _ _ _ _ (c6 .second .ensures) form (c3 .before .enum-told .given .1)
     _ (c3 .over-words .ensures) _ (c .before .words .given .1)
 
 enum-told-2 : tie.Need-enum-told-2
@@ -48,16 +53,18 @@ returns-3 : tie.Need-returns-3
 returns-3 c =
     let c3 = c .before .before .before in
     let c5 = c3 .before .before in
-    both-hold _ _ _ _ (c5 .second .ensures)
-    (plan-form _ _ _ _ (c5 .before .before .horizon-holds .ensures) (c5 .before .formula .ensures)) (c3 .enum-told .given .1)
+    let c7 = c5 .before .before in
+    let form = plan-form _ _ _ _ _ (c7 .before .counts .ensures) (c5 .before .horizon-holds .ensures) (c7 .length .ensures) in
+    both-hold _ _ _ _ (c5 .second .ensures) form (c3 .enum-told .given .1)
     _ (c .before .before .over-words .ensures) (c .enum-told2 .given .1)
 
 pub read-spec : {M : Type 1} → statement M
 read-spec =
     tie.close
     (tie.spec
+    counts-requires
+    length-requires
     horizon-holds-requires
-    formula-requires
     second-requires
     enum-known-shared
     returns
