@@ -7,6 +7,7 @@ use schedule::Place;
 use schedule::Refusal;
 ghost use mathlib.Core.Path.{_≡_};
 ghost use mathlib.Core.Bool.{_&&_};
+ghost use mathlib.Core.Option.{some};
 ghost use lib.Dec.{eqb};
 ghost use Rattle.schedule.specs.Fields.{field};
 ghost use Rattle.schedule.specs.Model.{model, within};
@@ -75,6 +76,13 @@ pub(crate) fn none_from(word: u32, n: u8) -> bool
 
 // ---- the rules that name no row
 
+// Such a rule is broken: "A and B are 0 where not named".
+fn refused(why: FormRefusal) -> Pass
+    ensures { λ r. ⌜ passNumbers r ≡ some (refusalIn (formNumber why) 0) ⌝ }
+{
+    Pass::Refused(refusal(why, 0))
+}
+
 // What the four rules that come first are called in a record.
 pub(crate) struct Names {
     pub(crate) size: FormRefusal,
@@ -90,19 +98,19 @@ pub(crate) fn head(s: &[u8], names: Names, least: u8, counts: bool, wanted: u32)
 {
     if !length_holds(s, least as usize) {
         let why = names.size;
-        return Pass::Refused(refusal(why, 0));
+        return refused(why);
     }
     if !version_holds(s) {
         let why = names.version;
-        return Pass::Refused(refusal(why, 0));
+        return refused(why);
     }
     if !counts {
         let why = names.counts;
-        return Pass::Refused(refusal(why, 0));
+        return refused(why);
     }
     if !formula_holds(s, wanted) {
         let why = names.formula;
-        return Pass::Refused(refusal(why, 0));
+        return refused(why);
     }
     Pass::Holds
 }

@@ -1,7 +1,5 @@
 -- `form::head` meets its contract: each way out has the tests that led there, in the order of the rules.
 -- Assumes nothing.
-use mathlib.Core.Option.{some}
-use mathlib.Core.Path.{ap}
 use borrow.Author.Tests.{not-false, not-true}
 use Rattle.records.specs.Reads.{headBreak}
 use Rattle.records.proofs.Reading.{told-no, told-yes}
@@ -12,18 +10,18 @@ use Rattle.records.proofs.form.head.Tie as tie
 length-holds-requires : tie.Need-length-holds-requires
 length-holds-requires c κs = search needs
 
-refusal-requires : tie.Need-refusal-requires
-refusal-requires c κs = search needs
+refused-requires : tie.Need-refused-requires
+refused-requires c κs = search needs
 
 returns : tie.Need-returns
 unfolding headBreak
-returns c = rw (told-no (c .before .before .length-holds .ensures) (c .before .if1 .taken)) (ap some (c .refusal .ensures))
+returns c = rw (told-no (c .before .before .length-holds .ensures) (c .before .if1 .taken)) (c .refused .ensures)
 
 version-holds-requires : tie.Need-version-holds-requires
 version-holds-requires c κs = search needs
 
-refusal-requires-2 : tie.Need-refusal-requires-2
-refusal-requires-2 c κs = search needs
+refused-requires-2 : tie.Need-refused-requires-2
+refused-requires-2 c κs = search needs
 
 returns-2 : tie.Need-returns-2
 unfolding headBreak
@@ -32,10 +30,10 @@ returns-2 c =
     rw (
       told-yes (c3 .before .length-holds .ensures) (c3 .if1 .left),
       told-no (c .before .before .version-holds .ensures) (c .before .if2 .taken),
-    ) (ap some (c .refusal2 .ensures))
+    ) (c .refused2 .ensures)
 
-refusal-requires-3 : tie.Need-refusal-requires-3
-refusal-requires-3 c κs = search needs
+refused-requires-3 : tie.Need-refused-requires-3
+refused-requires-3 c κs = search needs
 
 returns-3 : tie.Need-returns-3
 unfolding headBreak
@@ -46,13 +44,13 @@ returns-3 c =
       told-yes (c4 .before .length-holds .ensures) (c4 .if1 .left),
       told-yes (c2 .before .version-holds .ensures) (c2 .if2 .left),
       not-true (c4 .before .before .before .args .counts) (c .before .if3 .taken),
-    ) (ap some (c .refusal3 .ensures))
+    ) (c .refused3 .ensures)
 
 formula-holds-requires : tie.Need-formula-holds-requires
 formula-holds-requires c κs = search needs
 
-refusal-requires-4 : tie.Need-refusal-requires-4
-refusal-requires-4 c κs = search needs
+refused-requires-4 : tie.Need-refused-requires-4
+refused-requires-4 c κs = search needs
 
 returns-4 : tie.Need-returns-4
 unfolding headBreak
@@ -65,7 +63,7 @@ returns-4 c =
       told-yes (c4 .before .version-holds .ensures) (c4 .if2 .left),
       not-false (c6 .before .before .before .args .counts) (c3 .if3 .left),
       told-no (c .before .before .formula-holds .ensures) (c .before .if4 .taken),
-    ) (ap some (c .refusal4 .ensures))
+    ) (c .refused4 .ensures)
 
 returns-5 : tie.Need-returns-5
 unfolding headBreak
@@ -84,14 +82,14 @@ head-spec =
     tie.close
     (tie.spec
     length-holds-requires
-    refusal-requires
+    refused-requires
     returns
     version-holds-requires
-    refusal-requires-2
+    refused-requires-2
     returns-2
-    refusal-requires-3
+    refused-requires-3
     returns-3
     formula-holds-requires
-    refusal-requires-4
+    refused-requires-4
     returns-4
     returns-5)
