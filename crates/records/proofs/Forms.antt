@@ -11,10 +11,10 @@ use Rattle.schedule.specs.Choice.{choice, choiceLength, choiceForm, choiceCount
 use Rattle.schedule.specs.Plan.{plan, planLength, planForm, planCounts, wordRule}
 use Rattle.records.specs.declared.model.Sizes.{Sizes}
 use Rattle.records.specs.declared.plan.PlanSizes.{PlanSizes}
-use Rattle.records.specs.Rows.{limitsHold, sizesOf, planSizesOf, countsHold, horizonHolds}
-use Rattle.records.specs.Reads.{pick, orElse, headBreak, modelNames, secondBreak}
+use Rattle.records.specs.Rows.{limitsHold, sizesOf, planSizesOf, countsHold, horizonHolds, timingRule}
+use Rattle.records.specs.Reads.{pick, headBreak, modelNames, secondHead}
 use Rattle.records.specs.RowRules.{rowRules}
-use Rattle.records.proofs.Reading.{orElse-assoc, orElse-none, orElse-pick, rule-end, rule-next, rule-picked}
+use Rattle.records.proofs.Reading.{orElse, orElse-none, orElse-pick, rule-end, rule-next, rule-picked}
 
 -- a rule that names no row
 abbrev Single : Rule → Type 0
@@ -28,24 +28,29 @@ before r rs o rest one h =
     ∙ ap (pick (r .test 0 0) (r .number)) h
     ∙ sym (orElse-pick (r .test 0 0) (r .number) o rest)
 
+-- the first break of four, where the test of the third is told
+abbrev ofFour : Rule → Rule → Rule → Rule → Bool → Option Refusal
+ofFour p q r s t =
+    pick (p .test 0 0) (p .number)
+    (pick (q .test 0 0) (q .number) (pick t (r .number) (pick (s .test 0 0) (s .number) none)))
+
 -- four, before others
 four-first : (p q r s : Rule) (rest : List Rule) (t : Bool) → Single p → Single q → Single r → Single s → r .test 0 0 ≡ t
-    → firstBreak (p ∷ q ∷ r ∷ s ∷ rest)
-    ≡ orElse
-    (pick (p .test 0 0) (p .number)
-    (pick (q .test 0 0) (q .number) (pick t (r .number) (pick (s .test 0 0) (s .number) none))))
-    (firstBreak rest)
+    → firstBreak (p ∷ q ∷ r ∷ s ∷ rest) ≡ orElse (ofFour p q r s t) (firstBreak rest)
 four-first p q r s rest t one two three four e =
     rw (← e)
     (before p _ _ _ one (before q _ _ _ two (before r _ _ _ three (before s rest none (firstBreak rest) four refl))))
 
--- two rules, each over its rows
-two : (p q : Rule) → firstBreak (p ∷ q ∷ []) ≡ orElse (break p) (break q)
-two p q =
-    rule-next p (q ∷ [])
-    ∙ ap (orElse (break p)) (rule-next q [] ∙ ap (orElse (break q)) rule-end ∙ orElse-none (break q))
+-- four, before two that are tried over rows
+four-and-two : (p q r s u v : Rule) (t : Bool) → Single p → Single q → Single r → Single s → r .test 0 0 ≡ t
+    → firstBreak (p ∷ q ∷ r ∷ s ∷ u ∷ v ∷ []) ≡ orElse (ofFour p q r s t) (orElse (break u) (break v))
+four-and-two p q r s u v t one two three four e =
+    four-first p q r s (u ∷ v ∷ []) t one two three four e
+    ∙ ap (orElse (ofFour p q r s t))
+    (rule-next u (v ∷ [])
+    ∙ ap (orElse (break u)) (rule-next v [] ∙ ap (orElse (break v)) rule-end ∙ orElse-none (break v)))
 
--- rules 1 to 7, where the tests and the length were told
+-- rules 1 to 7, where the counts, their test and the length were told
 pub model-form : (s : List ℕ) (sizes : Sizes) (limits : Bool) (wanted : ℕ) → sizes ≡ sizesOf (model s)
     → limits ≡ limitsHold sizes → wanted ≡ modelLength (sizes .threads) (sizes .activities)
     → firstBreak (modelForm s) ≡ orElse (headBreak s modelNames 10 limits wanted) (firstBreak (rowRules (model s)))
@@ -53,41 +58,26 @@ unfolding modelForm headBreak lengthRule versionRule limitsRule formulaRule limi
 model-form s sizes limits wanted e t w =
     rw (w, t, e) (four-first _ _ _ _ _ _ (refl, refl) (refl, refl) (refl, refl) (refl, refl) refl)
 
--- four, and two over rows behind them
-four-and-two : (l v n f p q : Rule) (t : Bool) → Single l → Single v → Single n → Single f → n .test 0 0 ≡ t
-    → firstBreak (l ∷ v ∷ n ∷ f ∷ p ∷ q ∷ [])
-    ≡ orElse
-    (orElse
-    (pick (l .test 0 0) (l .number)
-    (pick (v .test 0 0) (v .number) (pick t (n .number) (pick (f .test 0 0) (f .number) none))))
-    (break p))
-    (break q)
-four-and-two l v n f p q t one more three four e =
-    four-first l v n f (p ∷ q ∷ []) t one more three four e
-    ∙ ap (orElse head) (two p q)
-    ∙ sym (orElse-assoc head (break p) (break q))
-  where
-    head : Option Refusal
-    head =
-        pick (l .test 0 0) (l .number)
-        (pick (v .test 0 0) (v .number) (pick t (n .number) (pick (f .test 0 0) (f .number) none)))
-
-and-true : (t : Bool) → t ≡ (t && true)
-and-true true = refl
-and-true false = refl
-
 -- rules 8 to 13 of a choice, beside the bytes s of a model
 pub choice-form : (s q : List ℕ) (wanted : ℕ) → wanted ≡ choiceLength (choice q .threads) (choice q .activities)
     → firstBreak (choiceForm (model s) q)
-    ≡ orElse (secondBreak s q 7 true wanted) (break (durationRule (model s) (choice q)))
+    ≡ orElse (secondHead s q 7 true wanted) (orElse (break (timingRule (model s) q 7)) (break (durationRule (model s) (choice q))))
 unfolding choiceForm headBreak lengthRule versionRule choiceCounts formulaRule countsHold model choice
 choice-form s q wanted w =
-    rw w (four-and-two _ _ _ _ _ _ _ (refl, refl) (refl, refl) (refl, refl) (refl, refl) (and-true _))
+    rw w (four-and-two _ _ _ _ _ _ _ (refl, refl) (refl, refl) (refl, refl) (refl, refl) refl)
+
+-- rule 10 of a plan: n and m, and H
+and-comm : (a b : Bool) → (a && b) ≡ (b && a)
+and-comm true true = refl
+and-comm true false = refl
+and-comm false true = refl
+and-comm false false = refl
 
 -- rules 8 to 12 and 14 of a plan
 pub plan-form : (s r : List ℕ) (sizes : PlanSizes) (further : Bool) (wanted : ℕ) → sizes ≡ planSizesOf (plan r)
     → further ≡ horizonHolds s r → wanted ≡ planLength (sizes .threads) (sizes .activities) (sizes .horizon)
-    → firstBreak (planForm (model s) r) ≡ orElse (secondBreak s r 9 further wanted) (break (wordRule (model s) (plan r)))
+    → firstBreak (planForm (model s) r)
+    ≡ orElse (secondHead s r 9 further wanted) (orElse (break (timingRule (model s) r 9)) (break (wordRule (model s) (plan r))))
 unfolding planForm headBreak lengthRule versionRule planCounts formulaRule countsHold horizonHolds planSizesOf model plan
 plan-form s r sizes further wanted e t w =
-    rw (w, t, e) (four-and-two _ _ _ _ _ _ _ (refl, refl) (refl, refl) (refl, refl) (refl, refl) refl)
+    rw (w, t, e) (four-and-two _ _ _ _ _ _ _ (refl, refl) (refl, refl) (refl, refl) (refl, refl) (and-comm (countsHold s r) (horizonHolds s r)))

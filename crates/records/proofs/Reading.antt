@@ -16,7 +16,7 @@ use Rattle.laws.proofs.RowLaws.{ClearTo, clear-again, clear-end, clear-stop, re
 use Rattle.records.specs.declared.Pass.{Pass}
 use Rattle.records.specs.declared.rows.Row.{Row}
 use Rattle.records.specs.declared.rows.RowRead.{RowRead}
-use Rattle.records.specs.Reads.{refusalIn, refusalOf, answerAt, rowAnswer, rowReadNumbers, passNumbers, passOf, pick, orElse}
+use Rattle.records.specs.Reads.{refusalIn, refusalOf, answerAt, rowAnswer, rowReadNumbers, passNumbers, passOf, pick}
 
 -- a call that tells a test said no, or yes
 pub told-no : {r s : Bool} → r ≡ s → not r ≡ true → s ≡ false
@@ -43,10 +43,6 @@ row-break r a row e =
     one true = refl
     one false = refl
 
-pass-refusal : (read : RowRead) → passNumbers (passOf read) ≡ refusalOf (rowReadNumbers read)
-pass-refusal (RowRead.Row row) = refl
-pass-refusal (RowRead.Refused x) = refl
-
 -- a loop over the rows of a rule: before row i none is broken, and row i is read
 module _ (r : Rule) (i : ℕ) (row : Row) (read : RowRead) (single : r .columns ≡ 1) (clear : ClearTo r i)
     (e : rowReadNumbers read ≡ rowAnswer r i row) where
@@ -70,9 +66,10 @@ rows-end r i e h = clear-end r (subst (ClearTo r) (sym e) h)
 
 -- ---- one rule after the other
 
-pub orElse-assoc : (a b c : Option Rule.Refusal) → orElse (orElse a b) c ≡ orElse a (orElse b c)
-orElse-assoc (some x) b c = refl
-orElse-assoc none b c = refl
+-- the first of two that is something
+abbrev pub orElse : Option Rule.Refusal → Option Rule.Refusal → Option Rule.Refusal
+orElse (some x) p = some x
+orElse none p = p
 
 pub orElse-none : (o : Option Rule.Refusal) → orElse o none ≡ o
 orElse-none (some x) = refl
@@ -83,31 +80,22 @@ pub orElse-pick : (t : Bool) (number : ℕ) (o rest : Option Rule.Refusal)
 orElse-pick true number o rest = refl
 orElse-pick false number o rest = refl
 
--- the first pass is refused, and that is the answer; or it holds, and the second is
-pub pass-stops : (first : Pass) (p rest : Option Rule.Refusal) (x : Refusal) → passNumbers first ≡ p → first ≡ Pass.Refused x
-    → passNumbers first ≡ orElse p rest
-pass-stops first p rest x e told =
-    ap passNumbers told ∙ ap (λ (o : Option Rule.Refusal). orElse o rest) (sym (ap passNumbers told) ∙ e)
+-- a pass p over the first of some rules, whose first break is o: it is refused, and that is the break, or it holds, and the
+-- rest decides
+module _ (o p rest : Option Rule.Refusal) (pass : Pass) (whole : o ≡ orElse p rest) (e : passNumbers pass ≡ p) where
+  pub pass-refused : (x : Refusal) → pass ≡ Pass.Refused x → some (refusalNumbers x) ≡ o
+  pass-refused x told = sym (whole ∙ ap (λ (q : Option Rule.Refusal). orElse q rest) (sym e ∙ ap passNumbers told))
 
-pub pass-goes-on : (first : Pass) (p rest o : Option Rule.Refusal) → passNumbers first ≡ p → first ≡ Pass.Holds → o ≡ rest
-    → o ≡ orElse p rest
-pass-goes-on first p rest o e told same =
-    same ∙ ap (λ (q : Option Rule.Refusal). orElse q rest) (sym (ap passNumbers told) ∙ e)
+  pub pass-holds : pass ≡ Pass.Holds → o ≡ rest
+  pass-holds told = whole ∙ ap (λ (q : Option Rule.Refusal). orElse q rest) (sym e ∙ ap passNumbers told)
 
--- two passes in a row, of rules whose first break is o
-module _ (o p q : Option Rule.Refusal) (first : Pass) (e : passNumbers first ≡ p) (form : o ≡ orElse p q) where
-  pub first-refused : (x : Refusal) → first ≡ Pass.Refused x → some (refusalNumbers x) ≡ o
-  first-refused x told = sym (ap passNumbers told) ∙ pass-stops first p q x e told ∙ sym form
+-- the pass over the last of them
+module _ (o : Option Rule.Refusal) (pass : Pass) (e : passNumbers pass ≡ o) where
+  pub last-refused : (x : Refusal) → pass ≡ Pass.Refused x → some (refusalNumbers x) ≡ o
+  last-refused x told = sym (ap passNumbers told) ∙ e
 
-  module _ (held : first ≡ Pass.Holds) (second : Pass) (f : passNumbers second ≡ q) where
-    whole : passNumbers second ≡ o
-    whole = pass-goes-on first p q _ e held f ∙ sym form
-
-    pub second-refused : (x : Refusal) → second ≡ Pass.Refused x → some (refusalNumbers x) ≡ o
-    second-refused x told = sym (ap passNumbers told) ∙ whole
-
-    pub both-hold : second ≡ Pass.Holds → none ≡ o
-    both-hold told = sym (ap passNumbers told) ∙ whole
+  pub last-holds : pass ≡ Pass.Holds → none ≡ o
+  last-holds told = sym (ap passNumbers told) ∙ e
 
 next : (o p : Option Rule.Refusal) → elim o [ some x ↦ some x | none ↦ p ] ≡ orElse o p
 next (some x) p = refl

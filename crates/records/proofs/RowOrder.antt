@@ -13,9 +13,9 @@ use Rattle.schedule.specs.Model.{Model, threadRule, activityRule, maskRule}
 use Rattle.schedule.specs.declared.Refusal.{Refusal}
 use Rattle.records.specs.declared.Pass.{Pass}
 use Rattle.records.specs.declared.model.RowRule.{RowRule}
-use Rattle.records.specs.Reads.{passNumbers, orElse}
+use Rattle.records.specs.Reads.{passNumbers}
 use Rattle.records.specs.RowRules.{rowRule, rowOrder, rulesIn}
-use Rattle.records.proofs.Reading.{pass-stops, pass-goes-on, rule-next}
+use Rattle.records.proofs.Reading.{orElse, pass-refused, pass-holds, rule-next}
 
 -- none names a B
 pub row-columns : (rule : RowRule) (m : Model) → rowRule rule m .columns ≡ 1
@@ -39,11 +39,11 @@ module _ (m : Model) (k : ℕ) (less : k < length rowOrder) (pass : Pass)
 
   -- it is broken, and that is the answer
   pub order-stops : (x : Refusal) → pass ≡ Pass.Refused x → passNumbers pass ≡ untried m k
-  order-stops x told = pass-stops pass _ (untried m (k + 1)) x e told ∙ sym parted
+  order-stops x told = ap passNumbers told ∙ pass-refused _ _ (untried m (k + 1)) pass parted e x told
 
   -- it holds, and the rest decides
   pub order-goes-on : pass ≡ Pass.Holds → untried m (k + 1) ≡ untried m k
-  order-goes-on told = pass-goes-on pass _ (untried m (k + 1)) _ e told refl ∙ sym parted
+  order-goes-on told = sym (pass-holds _ _ (untried m (k + 1)) pass parted e told)
 
 -- all are tried
 pub order-ends : (m : Model) (k : ℕ) → k ≡ length rowOrder → untried m k ≡ none

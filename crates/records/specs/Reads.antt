@@ -9,9 +9,8 @@ use lib.Dec.{eqb, leb}
 use lib.ListN.{length}
 use Rattle.schedule.specs.Fields.{field}
 use Rattle.schedule.specs.Rule
-use Rattle.schedule.specs.Rule.{Rule, break}
+use Rattle.schedule.specs.Rule.{Rule}
 use Rattle.schedule.specs.Answers.{Answer, accepted, refused}
-use Rattle.schedule.specs.Model.{model}
 use Rattle.schedule.specs.Numbers.{formNumber, refusalNumbers}
 use Rattle.schedule.specs.declared.FormRefusal.{FormRefusal}
 use Rattle.records.specs.declared.Pass.{Pass}
@@ -22,7 +21,7 @@ use Rattle.records.specs.declared.model.Sizes.{Sizes}
 use Rattle.records.specs.declared.model.ModelRead.{ModelRead}
 use Rattle.records.specs.declared.choice.ChoiceRead.{ChoiceRead}
 use Rattle.records.specs.declared.plan.PlanRead.{PlanRead}
-use Rattle.records.specs.Rows.{countsHold, timingRule}
+use Rattle.records.specs.Rows.{countsHold}
 
 -- a refusal that names row A alone
 abbrev pub refusalIn : ℕ → ℕ → Rule.Refusal
@@ -63,11 +62,6 @@ passOf (RowRead.Refused x) = Pass.Refused x
 abbrev pub pick : Bool → ℕ → Option Rule.Refusal → Option Rule.Refusal
 pick t number rest = cond t rest (some (refusalIn number 0))
 
--- the first of two that is something
-abbrev pub orElse : Option Rule.Refusal → Option Rule.Refusal → Option Rule.Refusal
-orElse (some x) p = some x
-orElse none p = p
-
 -- the test of a record's length
 abbrev pub sized : ℕ → List ℕ → Bool
 sized k s = leb k (length s) && eqb (field s 0 4) (length s)
@@ -98,10 +92,9 @@ secondNames = record {
   formula = FormRefusal.SecondFormula;
 }
 
--- rules 8 to 12 of the bytes r of a choice or a plan beside the bytes s of a model
-abbrev pub secondBreak : List ℕ → List ℕ → ℕ → Bool → ℕ → Option Rule.Refusal
-secondBreak s r at further wanted =
-    orElse (headBreak r secondNames at (countsHold s r && further) wanted) (break (timingRule (model s) r at))
+-- rules 8 to 11 of the bytes r of a choice or a plan beside the bytes s of a model
+abbrev pub secondHead : List ℕ → List ℕ → ℕ → Bool → ℕ → Option Rule.Refusal
+secondHead s r least further wanted = headBreak r secondNames least (further && countsHold s r) wanted
 
 -- ---- the three records
 

@@ -105,8 +105,12 @@ pub enum ChoiceRead {
 pub fn read(s: &[u8], q: &[u8]) -> ChoiceRead
     ensures { λ r. ⌜ choiceReadNumbers r ≡ firstBreak (choiceForm (model (now (s .entry))) (now (q .entry))) ⌝ }
 {
-    let shared = form::second(s, q, ROWS, true, formula(q));
-    if let Pass::Refused(x) = shared {
+    let head = form::second_head(s, q, ROWS, true, formula(q));
+    if let Pass::Refused(x) = head {
+        return ChoiceRead::Refused(x);
+    }
+    let timings = timings::over_timings(s, q, ROWS);
+    if let Pass::Refused(x) = timings {
         return ChoiceRead::Refused(x);
     }
     let durations = over_durations(s, q);

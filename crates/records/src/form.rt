@@ -1,7 +1,6 @@
-// What the rules of the three records share: a refusal's place, the four rules that come first, those of a choice or a plan
-// beside a model, and the tests of length, version, range and high bits.
+// What the rules of the three records share: a refusal's place, the four rules that come first, and the tests of length,
+// version, range and high bits.
 use crate::Pass;
-use crate::timings;
 use schedule::FormRefusal;
 use schedule::Place;
 use schedule::Refusal;
@@ -10,9 +9,9 @@ ghost use mathlib.Core.Bool.{_&&_};
 ghost use mathlib.Core.Option.{some};
 ghost use lib.Dec.{eqb};
 ghost use Rattle.schedule.specs.Fields.{field};
-ghost use Rattle.schedule.specs.Model.{model, within};
+ghost use Rattle.schedule.specs.Model.{within};
 ghost use Rattle.schedule.specs.Numbers.{formNumber, refusalNumbers};
-ghost use Rattle.records.specs.Reads.{refusalIn, passNumbers, sized, headBreak, secondBreak};
+ghost use Rattle.records.specs.Reads.{refusalIn, passNumbers, sized, headBreak, secondHead};
 ghost use Rattle.records.specs.Rows.{countsHold, noneFrom};
 
 // "A refusal answers its number, A and B", B not named.
@@ -47,17 +46,17 @@ fn formula_holds(s: &[u8], wanted: u32) -> bool
     fields::be32(s, 0) == wanted
 }
 
-// 10 "its n or m, or a plan's H, differs from the model's", where the test of H, if there is one, is known.
+// 10 "its n or m, or a plan's H, differs from the model's", where what is asked further than n and m is known.
 fn counts_hold(s: &[u8], r: &[u8], further: bool) -> bool
-    ensures { λ x. ⌜ x ≡ (countsHold (now (s .entry)) (now (r .entry)) && further) ⌝ }
+    ensures { λ x. ⌜ x ≡ (further && countsHold (now (s .entry)) (now (r .entry))) ⌝ }
 {
+    if !further {
+        return false;
+    }
     if fields::byte(r, 5) != fields::byte(s, 6) {
         return false;
     }
-    if fields::byte(r, 6) != fields::byte(s, 7) {
-        return false;
-    }
-    further
+    fields::byte(r, 6) == fields::byte(s, 7)
 }
 
 // low ≤ x ≤ high
@@ -115,10 +114,10 @@ pub(crate) fn head(s: &[u8], names: Names, least: u8, counts: bool, wanted: u32)
     Pass::Holds
 }
 
-// Rules 8 to 12, "in list order", of a choice or a plan whose thread rows begin at a position, behind the bytes that it has
-// at least; rule 10 may ask for more than n and m.
-pub(crate) fn second(s: &[u8], r: &[u8], first: u8, further: bool, wanted: u32) -> Pass
-    ensures { λ x. ⌜ passNumbers x ≡ secondBreak (now (s .entry)) (now (r .entry)) first further wanted ⌝ }
+// Rules 8 to 11 of a choice or a plan beside a model. Its thread rows begin at a position, behind the bytes that it has at
+// least; rule 10 may ask further than n and m.
+pub(crate) fn second_head(s: &[u8], r: &[u8], first: u8, further: bool, wanted: u32) -> Pass
+    ensures { λ x. ⌜ passNumbers x ≡ secondHead (now (s .entry)) (now (r .entry)) first further wanted ⌝ }
 {
     let names = Names {
         size: FormRefusal::SecondSize,
@@ -126,9 +125,5 @@ pub(crate) fn second(s: &[u8], r: &[u8], first: u8, further: bool, wanted: u32) 
         counts: FormRefusal::SecondCounts,
         formula: FormRefusal::SecondFormula,
     };
-    let head = head(r, names, first, counts_hold(s, r, further), wanted);
-    if let Pass::Refused(_) = head {
-        return head;
-    }
-    timings::over_timings(s, r, first)
+    head(r, names, first, counts_hold(s, r, further), wanted)
 }

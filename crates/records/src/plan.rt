@@ -225,8 +225,12 @@ pub fn read(s: &[u8], r: &[u8]) -> PlanRead
 {
     let sizes = counts(r);
     let wanted = length(sizes.threads, sizes.activities, sizes.horizon);
-    let shared = form::second(s, r, ROWS, horizon_holds(s, r), wanted);
-    if let Pass::Refused(x) = shared {
+    let head = form::second_head(s, r, ROWS, horizon_holds(s, r), wanted);
+    if let Pass::Refused(x) = head {
+        return PlanRead::Refused(x);
+    }
+    let timings = timings::over_timings(s, r, ROWS);
+    if let Pass::Refused(x) = timings {
         return PlanRead::Refused(x);
     }
     let words = over_words(s, r);
