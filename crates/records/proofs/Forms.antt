@@ -80,4 +80,6 @@ pub plan-form : (s r : List ℕ) (sizes : PlanSizes) (further : Bool) (wanted : 
     ≡ orElse (secondHead s r 9 further wanted) (orElse (break (timingRule (model s) r 9)) (break (wordRule (model s) (plan r))))
 unfolding planForm headBreak lengthRule versionRule planCounts formulaRule countsHold horizonHolds planSizesOf model plan
 plan-form s r sizes further wanted e t w =
-    rw (w, t, e) (four-and-two _ _ _ _ _ _ _ (refl, refl) (refl, refl) (refl, refl) (refl, refl) (and-comm (countsHold s r) (horizonHolds s r)))
+    rw (w, t, e)
+    (four-and-two _ _ _ _ _ _ _ (refl, refl) (refl, refl) (refl, refl) (refl, refl)
+    (and-comm (countsHold s r) (horizonHolds s r)))

@@ -105,7 +105,7 @@ pub fn activity_row(s: &[u8], a: Activity) -> ActivityRow
     }
 }
 
-// ---- rules 1 to 4, the tests of the counts
+// ---- rules 3 and 4
 
 // "3 c, n, m or H outside its limits"
 fn limits_hold(x: Sizes) -> bool
@@ -252,6 +252,8 @@ fn row_rules(s: &[u8]) -> Pass
     }
     Pass::Holds
 }
+
+// ---- rule 12, of a choice or a plan
 
 // Rule 12 of thread j, by its number among all: "release or period outside the model's range".
 pub(crate) fn in_range(s: &[u8], j: u8, x: Timing) -> bool

@@ -19,7 +19,8 @@ enum-known-head c = search needs
 returns : tie.Need-returns
 returns c =
     let c3 = c .before .before .before in
-    pass-refused _ _ _ _ (choice-form _ _ _ (c3 .before .formula .ensures)) (c3 .second-head .ensures) _ (c .before .head .given .1)
+    let form = choice-form _ _ _ (c3 .before .formula .ensures) in
+    pass-refused _ _ _ _ form (c3 .second-head .ensures) _ (c .before .head .given .1)
 
 enum-told : tie.Need-enum-told
 enum-told c = search needs
@@ -34,7 +35,8 @@ returns-2 : tie.Need-returns-2
 returns-2 c =
     let c3 = c .before .before .before in
     let c6 = c3 .before .before .before in
-    let rows = pass-holds _ _ _ _ (choice-form _ _ _ (c6 .before .formula .ensures)) (c6 .second-head .ensures) (c3 .before .enum-told .given .1) in
+    let form = choice-form _ _ _ (c6 .before .formula .ensures) in
+    let rows = pass-holds _ _ _ _ form (c6 .second-head .ensures) (c3 .before .enum-told .given .1) in
     pass-refused _ _ _ _ rows (c3 .over-timings .ensures) _ (c .before .timings .given .1)
 
 enum-told-2 : tie.Need-enum-told-2
@@ -51,7 +53,8 @@ returns-3 c =
     let c3 = c .before .before .before in
     let c6 = c3 .before .before .before in
     let c9 = c6 .before .before .before in
-    let rows = pass-holds _ _ _ _ (choice-form _ _ _ (c9 .before .formula .ensures)) (c9 .second-head .ensures) (c6 .before .enum-told .given .1) in
+    let form = choice-form _ _ _ (c9 .before .formula .ensures) in
+    let rows = pass-holds _ _ _ _ form (c9 .second-head .ensures) (c6 .before .enum-told .given .1) in
     let durations = pass-holds _ _ _ _ rows (c6 .over-timings .ensures) (c3 .before .enum-told2 .given .1) in
     last-refused _ _ (c3 .over-durations .ensures ∙ sym durations) _ (c .before .durations .given .1)
 
@@ -63,7 +66,8 @@ returns-4 c =
     let c2 = c .before .before in
     let c5 = c2 .before .before .before in
     let c8 = c5 .before .before .before in
-    let rows = pass-holds _ _ _ _ (choice-form _ _ _ (c8 .before .formula .ensures)) (c8 .second-head .ensures) (c5 .before .enum-told .given .1) in
+    let form = choice-form _ _ _ (c8 .before .formula .ensures) in
+    let rows = pass-holds _ _ _ _ form (c8 .second-head .ensures) (c5 .before .enum-told .given .1) in
     let durations = pass-holds _ _ _ _ rows (c5 .over-timings .ensures) (c2 .before .enum-told2 .given .1) in
     last-holds _ _ (c2 .over-durations .ensures ∙ sym durations) (c .enum-told3 .given .1)
 
