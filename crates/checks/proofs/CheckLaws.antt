@@ -2,7 +2,7 @@
 -- Assumes nothing.
 use mathlib.Core.Bool.{Bool, true, false}
 use mathlib.Core.List.{List, _++_}
-use mathlib.Core.Option.{Option, some, none}
+use mathlib.Core.Option.{Option, none}
 use mathlib.Core.Path.{_≡_, refl, sym, ap, _∙_}
 use Prim.Native.Nat.{ℕ}
 use Rattle.schedule.specs.Rule
@@ -20,6 +20,7 @@ use Rattle.records.specs.declared.plan.PlanRead.{PlanRead}
 use Rattle.records.specs.declared.Pass.{Pass}
 use Rattle.records.specs.Reads.{passNumbers, modelReadNumbers, planReadNumbers}
 use Rattle.records.specs.Rows.{sizesOf}
+use Rattle.records.proofs.Reading.{answer-refuses, answer-accepts}
 use Rattle.checks.specs.Rules.{gridRules, checksOf}
 
 -- the rules of a check, part by part
@@ -29,17 +30,6 @@ unfolding plainChecks strictChecks
 parts true s r = refl
 parts false s r = refl
 
--- what an answer says of the first break
-broken : {F : Type 0} (o : Option Rule.Refusal) (pass : F) (x : Rule.Refusal) → answer o pass ≡ refused x → o ≡ some x
-unfolding answer
-broken none pass x e = cc
-broken (some y) pass x e = cc
-
-unbroken : {F : Type 0} (o : Option Rule.Refusal) (pass f : F) → answer o pass ≡ accepted f → o ≡ none
-unfolding answer
-unbroken none pass f e = refl
-unbroken (some y) pass f e = cc
-
 module _ (strict : Bool) (s r : List ℕ) where
   -- the model is refused
   pub model-stops : (read : ModelRead) (x : Refusal) → read ≡ ModelRead.Refused x
@@ -47,7 +37,7 @@ module _ (strict : Bool) (s r : List ℕ) where
       → refused (refusalNumbers x) ≡ answer (firstBreak (checksOf strict s r)) (figures (model s) (plan r))
   unfolding answer
   model-stops read x told e =
-      let first = broken (firstBreak (modelForm s)) (sizesOf (model s)) (refusalNumbers x) (sym e ∙ ap modelReadNumbers told) in
+      let first = answer-refuses (firstBreak (modelForm s)) (sizesOf (model s)) (refusalNumbers x) (sym (ap modelReadNumbers told) ∙ e) in
       ap (λ (o : Option Rule.Refusal). answer o (figures (model s) (plan r)))
       (sym (append-some (modelForm s) (planForm (model s) r ++ gridRules strict (model s) (plan r)) (refusalNumbers x) first)
       ∙ ap firstBreak (parts strict s r))
@@ -55,7 +45,7 @@ module _ (strict : Bool) (s r : List ℕ) where
   module _ (read : ModelRead) (sizes : Sizes) (told : read ≡ ModelRead.Model sizes)
       (e : modelReadNumbers read ≡ answer (firstBreak (modelForm s)) (sizesOf (model s))) where
     formed : firstBreak (modelForm s) ≡ none
-    formed = unbroken (firstBreak (modelForm s)) (sizesOf (model s)) sizes (sym e ∙ ap modelReadNumbers told)
+    formed = answer-accepts (firstBreak (modelForm s)) (sizesOf (model s)) sizes (sym (ap modelReadNumbers told) ∙ e)
 
     pub model-formed : AllHold (modelForm s)
     model-formed = none-iff (modelForm s) (modelForm-sound s) .0 formed

@@ -5,6 +5,5 @@ pub mod TickLaws
 pub mod EfeTable
 pub mod MaskRow
 pub mod ActivityLaws
-pub mod ListLaws
 pub mod RuleOrder
 pub mod CheckLaws

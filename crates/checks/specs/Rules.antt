@@ -1,10 +1,10 @@
 -- The rules of activities by name, what their code needs, and the rules of a check in the order in which they are tried.
 -- Assumes nothing.
 use Prim.Native.Nat.{ℕ, _+_, _≤_, _<_}
-use mathlib.Core.Bool.{Bool, true, false, _&&_, not, cond}
-use mathlib.Core.List.{List, [], _∷_, _++_, map}
+use mathlib.Core.Bool.{Bool, true, false, _&&_, not}
+use mathlib.Core.List.{List, [], _∷_, map}
 use mathlib.Core.Path.{_≡_}
-use lib.Dec.{eqb, leb, ltb}
+use lib.Dec.{leb, ltb}
 use lib.ListN.{getD}
 use Rattle.schedule.specs.Bounded.{all, bit, wordOf, _⇒_}
 use Rattle.schedule.specs.Rule.{Rule}
@@ -12,11 +12,10 @@ use Rattle.schedule.specs.Model.{Model}
 use Rattle.schedule.specs.Plan.{Plan, active}
 use Rattle.schedule.specs.Checks.{ruleOf, rulesOf, plainRules, strictRules}
 use Rattle.schedule.specs.Answers.{plainChecks, strictChecks}
-use Rattle.schedule.specs.Numbers.{ruleNumber}
 use Rattle.schedule.specs.declared.RuleRefusal.{RuleRefusal}
 use Rattle.checks.specs.declared.activity.ActivityRule.{ActivityRule}
-use Rattle.checks.specs.declared.activity.Following.{Following}
-use Rattle.checks.specs.Tables.{tickRule, loadRule, rankRule, Tabulated}
+use Rattle.checks.specs.declared.tick.TickRule.{TickRule}
+use Rattle.checks.specs.Tables.{tickName, Tabulated}
 
 abbrev pub activityName : ActivityRule → RuleRefusal
 activityName ActivityRule.Window = RuleRefusal.Window
@@ -59,31 +58,9 @@ activityOrder =
 unfoldable pub activityRules : Model → Plan → List Rule
 activityRules m p = rulesOf (map activityName activityOrder) m p
 
--- what stands behind a rule in an order, and what stands first in one
-abbrev pub behind : ActivityRule → List ActivityRule → List ActivityRule
-behind rule [] = []
-behind rule (x ∷ xs) = cond (eqb (ruleNumber (activityName rule)) (ruleNumber (activityName x))) xs (behind rule xs)
-
-abbrev pub firstOf : List ActivityRule → Following
-firstOf [] = Following.Nothing
-firstOf (x ∷ xs) = Following.Rule x
-
--- what is left to be tried
-abbrev pub untried : Following → List ActivityRule
-untried Following.Nothing = []
-untried (Following.Rule rule) = rule ∷ behind rule activityOrder
-
-abbrev pub untriedRules : Following → Model → Plan → List Rule
-untriedRules following m p = rulesOf (map activityName (untried following)) m p
-
--- 28 and 29 of the plain check, 30 and 31 of the strict check
-unfoldable pub twoRules : Bool → Model → Plan → List Rule
-twoRules strict m p = tickRule (loadRule strict) m p ∷ tickRule (rankRule strict) m p ∷ []
-
--- the rules of ticks of the plain or the strict check
-abbrev pub tickRules : Bool → Model → Plan → List Rule
-tickRules true m p = twoRules false m p ++ twoRules true m p
-tickRules false m p = twoRules false m p
+-- the rules of ticks that a list names, in its order
+abbrev pub tickRules : List TickRule → Model → Plan → List Rule
+tickRules order m p = rulesOf (map tickName order) m p
 
 -- the rules of the plain or the strict check on a plan, and on two byte strings
 abbrev pub gridRules : Bool → Model → Plan → List Rule

@@ -1,7 +1,7 @@
 -- What the checks keep in tables and masks, so that a tick costs a few operations on whole words.
 -- Assumes nothing.
 use Prim.Native.Nat.{ℕ, _+_, _-_, _≤_, _<_, max}
-use mathlib.Core.Bool.{Bool, true, false, _&&_, not, cond}
+use mathlib.Core.Bool.{Bool, _&&_, not, cond}
 use mathlib.Core.List.{List, []}
 use mathlib.Core.Path.{_≡_}
 use lib.Bits.{bitAnd}
@@ -75,20 +75,6 @@ tickName TickRule.Tie = RuleRefusal.Tie
 
 abbrev pub tickRule : TickRule → Model → Plan → Rule
 tickRule rule = ruleOf (tickName rule)
-
--- the two rules of the plain check and the two of the strict check: of how many are active, and by rank
-abbrev pub loadRule : Bool → TickRule
-loadRule true = TickRule.Idle
-loadRule false = TickRule.Cores
-
-abbrev pub rankRule : Bool → TickRule
-rankRule true = TickRule.Tie
-rankRule false = TickRule.Preemption
-
--- in what sense the second of them compares a waiting activity with an active one
-abbrev pub orderOf : Bool → Order
-orderOf true = Order.Level
-orderOf false = Order.Higher
 
 -- the activities that break one of these rules at a tick with this word, where the open ones may wait
 abbrev pub breakingOf : TickRule → ℕ → ℕ → ℕ → List ℕ → ℕ

@@ -25,7 +25,7 @@ ghost use Rattle.schedule.specs.Plan.{plan, planTiming};
 ghost use Rattle.schedule.specs.Checks.{window};
 ghost use Rattle.records.specs.Reads.{passNumbers};
 ghost use Rattle.checks.specs.Tables.{brokenMask};
-ghost use Rattle.checks.specs.Rules.{activityName, activityRule, activityOrder, behind, firstOf};
+ghost use Rattle.checks.specs.Rules.{activityName, activityRule};
 ghost use Rattle.checks.specs.Rules.{earlyFrom, noneOutside, Counted};
 
 // The rules that are tried at activities.
@@ -44,12 +44,6 @@ pub(crate) enum ActivityRule {
     Data,
     // 27 "start ≥ efe"
     Eligible,
-}
-
-// What is tried next.
-pub(crate) enum Following {
-    Rule(ActivityRule),
-    Nothing,
 }
 
 // 21 at activity a, where a word says which activities are active outside their window.
@@ -173,21 +167,6 @@ fn breaking(
         ActivityRule::Eligible => flag(
             less(at(&tables[FINISHES], a), at(&tables[COUNTS], a)) <= start,
         ),
-    }
-}
-
-// The order in which the rules are tried: what follows a rule.
-pub(crate) fn next(rule: ActivityRule) -> Following
-    ensures { λ r. ⌜ r ≡ firstOf (behind rule activityOrder) ⌝ }
-{
-    match rule {
-        ActivityRule::Window => Following::Rule(ActivityRule::Count),
-        ActivityRule::Count => Following::Rule(ActivityRule::Deadline),
-        ActivityRule::Deadline => Following::Rule(ActivityRule::Span),
-        ActivityRule::Span => Following::Rule(ActivityRule::Temporal),
-        ActivityRule::Temporal => Following::Rule(ActivityRule::Data),
-        ActivityRule::Data => Following::Rule(ActivityRule::Eligible),
-        ActivityRule::Eligible => Following::Nothing,
     }
 }
 

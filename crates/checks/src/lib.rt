@@ -6,8 +6,6 @@ mod tick;
 mod windows;
 
 use activity::ActivityRule;
-use activity::Following;
-use activity::next;
 use activity::over_activities;
 use page::Tables;
 use records::Pass;
@@ -17,19 +15,18 @@ use schedule::Place;
 use schedule::Refusal;
 use schedule::RuleRefusal;
 use schedule::Verdict;
-use tick::load_rule;
-use tick::order;
+use tick::TickRule;
 use tick::over_ticks;
-use tick::rank_rule;
 ghost use mathlib.Core.Path.{_≡_};
 ghost use mathlib.Core.Option.{some};
+ghost use lib.ListN.{length};
 ghost use Rattle.schedule.specs.Rule.{firstBreak};
 ghost use Rattle.schedule.specs.Model.{model, Formed};
 ghost use Rattle.schedule.specs.Plan.{plan};
 ghost use Rattle.schedule.specs.Answers.{answer, figures, plainVerdict, strictVerdict};
 ghost use Rattle.schedule.specs.Numbers.{ruleNumber, verdictNumbers};
 ghost use Rattle.checks.specs.Tables.{Tabulated};
-ghost use Rattle.checks.specs.Rules.{Counted, activityRules, twoRules, tickRules, gridRules, checksOf};
+ghost use Rattle.checks.specs.Rules.{Counted, activityRules, tickRules, gridRules, checksOf};
 ghost use Rattle.records.specs.Reads.{passNumbers};
 
 // A rule broken at a place.
@@ -44,48 +41,46 @@ fn activity_rules(s: &[u8], r: &[u8], outside: u32, tables: &Tables) -> Pass
     requires { ⌜ Counted (model (now s)) (plan (now r)) outside (now tables) ⌝ }
     ensures { λ x. ⌜ passNumbers x ≡ firstBreak (activityRules (model (now (s .entry))) (plan (now (r .entry)))) ⌝ }
 {
-    let mut following = Following::Rule(ActivityRule::Window);
-    loop {
-        let Following::Rule(rule) = following else {
-            return Pass::Holds;
-        };
+    let order = [
+        ActivityRule::Window,
+        ActivityRule::Count,
+        ActivityRule::Deadline,
+        ActivityRule::Span,
+        ActivityRule::Temporal,
+        ActivityRule::Data,
+        ActivityRule::Eligible,
+    ];
+    let mut k: usize = 0;
+    while k < order.len() {
+        let rule = order[k];
         let pass = over_activities(rule, s, r, outside, tables);
         if let Pass::Refused(_) = pass {
             return pass;
         }
-        following = next(rule);
-    }
-}
-
-// Rules 28 and 29 or, strictly, 30 and 31: first the rule of how many are active, then the one that compares by rank.
-fn two_rules(s: &[u8], r: &[u8], strict: bool, tables: &Tables) -> Pass
-    requires { ⌜ Tabulated (model (now s)) (plan (now r)) (now tables) ⌝ }
-    ensures { λ x. ⌜ passNumbers x ≡ firstBreak (twoRules strict (model (now (s .entry))) (plan (now (r .entry)))) ⌝ }
-{
-    let masks = tables::ranking::masks(order(strict), s);
-    let load = over_ticks(load_rule(strict), s, r, tables, &masks);
-    if let Pass::Refused(_) = load {
-        return load;
-    }
-    over_ticks(rank_rule(strict), s, r, tables, &masks)
-}
-
-// The rules of ticks of a check, in order: "the strict check goes on with 30 and 31".
-fn tick_rules(s: &[u8], r: &[u8], strict: bool, tables: &Tables) -> Pass
-    requires { ⌜ Tabulated (model (now s)) (plan (now r)) (now tables) ⌝ }
-    ensures { λ x. ⌜ passNumbers x ≡ firstBreak (tickRules strict (model (now (s .entry))) (plan (now (r .entry)))) ⌝ }
-{
-    let plain = two_rules(s, r, false, tables);
-    if let Pass::Refused(_) = plain {
-        return plain;
-    }
-    if strict {
-        return two_rules(s, r, true, tables);
+        k += 1;
     }
     Pass::Holds
 }
 
-// The rules of a check on well-formed records, in order.
+// Two rules of ticks, in the same way.
+fn tick_rules(order: [TickRule; 2], s: &[u8], r: &[u8], tables: &Tables) -> Pass
+    requires { ⌜ length order ≡ 2 ⌝ }
+    requires { ⌜ Tabulated (model (now s)) (plan (now r)) (now tables) ⌝ }
+    ensures { λ x. ⌜ passNumbers x ≡ firstBreak (tickRules order (model (now (s .entry))) (plan (now (r .entry)))) ⌝ }
+{
+    let mut k: usize = 0;
+    while k < order.len() {
+        let rule = order[k];
+        let pass = over_ticks(rule, s, r, tables);
+        if let Pass::Refused(_) = pass {
+            return pass;
+        }
+        k += 1;
+    }
+    Pass::Holds
+}
+
+// The rules of a check on well-formed records, in order: "The plain check ends here; the strict check goes on with 30 and 31."
 fn grid_rules(s: &[u8], r: &[u8], strict: bool) -> Pass
     requires { ⌜ Formed (model (now s)) ⌝ }
     ensures { λ x. ⌜ passNumbers x ≡ firstBreak (gridRules strict (model (now (s .entry))) (plan (now (r .entry)))) ⌝ }
@@ -96,7 +91,14 @@ fn grid_rules(s: &[u8], r: &[u8], strict: bool) -> Pass
     if let Pass::Refused(_) = activities {
         return activities;
     }
-    tick_rules(s, r, strict, &tables)
+    let plain = tick_rules([TickRule::Cores, TickRule::Preemption], s, r, &tables);
+    if let Pass::Refused(_) = plain {
+        return plain;
+    }
+    if strict {
+        return tick_rules([TickRule::Idle, TickRule::Tie], s, r, &tables);
+    }
+    Pass::Holds
 }
 
 // A check of a model's and a plan's bytes: "The model is tried first, in list order".

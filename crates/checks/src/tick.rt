@@ -7,12 +7,13 @@ use crate::windows;
 use records::Pass;
 use schedule::RuleRefusal;
 use tables::ranking::Order;
+use tables::ranking::masks;
 ghost use mathlib.Core.Path.{_≡_};
 ghost use mathlib.Core.Bool.{cond};
 ghost use lib.Bits.{bitAnd, bitOr};
 ghost use lib.Dec.{eqb, ltb};
 ghost use Rattle.schedule.specs.Bounded.{ones};
-ghost use Rattle.checks.specs.Tables.{outrankingOf, breakingOf, tickName, tickRule, loadRule, rankRule, orderOf};
+ghost use Rattle.checks.specs.Tables.{outrankingOf, breakingOf, tickName, tickRule};
 ghost use Rattle.checks.specs.Tables.{Tabulated, Ranked};
 ghost use Rattle.schedule.specs.Rule.{break};
 ghost use Rattle.schedule.specs.Model.{model};
@@ -31,33 +32,17 @@ pub(crate) enum TickRule {
     Tie,
 }
 
-// The rule of how many are active, of the plain check or the further one of the strict check.
-pub(crate) fn load_rule(strict: bool) -> TickRule
-    ensures { λ r. ⌜ r ≡ loadRule strict ⌝ }
+// For each activity those that a rule compares it with while they wait: 29 by a higher priority, 31 by a lower number at one
+// priority. 28 and 30 compare none.
+fn outranked_by(rule: TickRule, s: &[u8]) -> [u32; 32]
+    ensures { λ r. ⌜ Ranked rule (model (now (s .entry))) r ⌝ }
 {
-    if strict {
-        TickRule::Idle
-    } else {
-        TickRule::Cores
+    match rule {
+        TickRule::Cores => [0u32; 32],
+        TickRule::Preemption => masks(Order::Higher, s),
+        TickRule::Idle => [0u32; 32],
+        TickRule::Tie => masks(Order::Level, s),
     }
-}
-
-// And the rule that compares a waiting activity with the active ones.
-pub(crate) fn rank_rule(strict: bool) -> TickRule
-    ensures { λ r. ⌜ r ≡ rankRule strict ⌝ }
-{
-    if strict {
-        TickRule::Tie
-    } else {
-        TickRule::Preemption
-    }
-}
-
-// In what sense that rule's waiting activity outranks an active one.
-pub(crate) fn order(strict: bool) -> Order
-    ensures { λ r. ⌜ r ≡ orderOf strict ⌝ }
-{
-    if strict { Order::Level } else { Order::Higher }
 }
 
 // Two words joined.
@@ -130,26 +115,21 @@ fn name(rule: TickRule) -> RuleRefusal
 }
 
 // A rule tried at every tick: "lowest A first, then lowest B".
-pub(crate) fn over_ticks(
-    rule: TickRule,
-    s: &[u8],
-    r: &[u8],
-    tables: &Tables,
-    masks: &[u32; 32],
-) -> Pass
-    requires { ⌜ Tabulated (model (now s)) (plan (now r)) (now tables) × Ranked rule (model (now s)) (now masks) ⌝ }
+pub(crate) fn over_ticks(rule: TickRule, s: &[u8], r: &[u8], tables: &Tables) -> Pass
+    requires { ⌜ Tabulated (model (now s)) (plan (now r)) (now tables) ⌝ }
     ensures { λ x. ⌜ passNumbers x ≡ break (tickRule rule (model (now (s .entry))) (plan (now (r .entry)))) ⌝ }
 {
     let sizes = records::model::counts(s);
     let cores = sizes.cores as u32;
     let n = sizes.activities as usize;
     let horizon = sizes.horizon;
+    let outranked = outranked_by(rule, s);
     let mut waitable = ticks::unknown();
     let mut t: u16 = 0;
     while t < horizon {
         waitable = windows::at(waitable, n, &tables[FROMS], &tables[ENDS], t as u32);
         let word = records::plan::word(r, t);
-        let b = bits::lowest(breaking(rule, word, cores, waitable.word, masks));
+        let b = bits::lowest(breaking(rule, word, cores, waitable.word, &outranked));
         if b < 32 {
             return refused(name(rule), t as u32, b);
         }

@@ -142,3 +142,14 @@ pub answer-accepted : {F : Type 0} (o : Option Rule.Refusal) (pass wanted : F) �
     → accepted pass ≡ answer o wanted
 unfolding answer
 answer-accepted o pass wanted e same = ap₂ answer e same
+
+-- the same read backwards
+pub answer-refuses : {F : Type 0} (o : Option Rule.Refusal) (pass : F) (x : Rule.Refusal) → refused x ≡ answer o pass → o ≡ some x
+unfolding answer
+answer-refuses none pass x e = cc
+answer-refuses (some y) pass x e = cc
+
+pub answer-accepts : {F : Type 0} (o : Option Rule.Refusal) (pass f : F) → accepted f ≡ answer o pass → o ≡ none
+unfolding answer
+answer-accepts none pass f e = refl
+answer-accepts (some y) pass f e = cc

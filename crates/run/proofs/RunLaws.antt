@@ -352,17 +352,6 @@ outcome-answers m q l out out′ owed ends r h p a =
 
 -- ---- the input
 
--- an answer that is a refusal, and one that is not
-pub answer-refuses : {F : Type 0} (o : Option Refusal) (pass : F) (x : Refusal) → refused x ≡ answer o pass → o ≡ some x
-unfolding answer
-answer-refuses none pass x e = let z : _≡_ {A = ℕ} 0 1 = cc in absurd (omega arith)
-answer-refuses (some y) pass x e = cc
-
-pub answer-accepts : {F : Type 0} (o : Option Refusal) (pass f : F) → accepted f ≡ answer o pass → o ≡ none
-unfolding answer
-answer-accepts none pass f e = refl
-answer-accepts (some y) pass f e = let z : _≡_ {A = ℕ} 0 1 = cc in absurd (omega arith)
-
 module _ (s q : List ℕ) where
   pub model-breaks : (x : Refusal) → firstBreak (modelForm s) ≡ some x → firstBreak (runChecks s q) ≡ some x
   unfolding runChecks

@@ -1,71 +1,75 @@
--- `checks::activity_rules` meets its contract: the rules tried hold, and those that are left decide. Assumes nothing.
-use mathlib.Core.Path.{_≡_, refl, _∙_}
+-- `checks::activity_rules` meets its contract: the rules tried hold, and those that are left decide.
+-- Assumes nothing.
+use native.Mathlib.Omega.{arith}
+use Prim.Native.Nat.{_≤_, _-_}
+use mathlib.Core.Path.{_≡_, refl, sym, _∙_}
 use lib.ListN.{length}
-use Rattle.schedule.specs.Rule.{firstBreak}
+use Rattle.schedule.specs.Rule.{Rule, firstBreak}
 use Rattle.schedule.specs.Model.{model}
 use Rattle.schedule.specs.Plan.{plan}
-use Rattle.checks.specs.Rules.{activityRules, untried, untriedRules}
-use Rattle.checks.proofs.RuleOrder.{one-less, rule-breaks, rule-holds, rules-end}
+use Rattle.records.proofs.Orders.{untried, order-stops, order-goes-on, order-ends}
+use Rattle.checks.specs.declared.activity.ActivityRule.{ActivityRule}
+use Rattle.checks.specs.Rules.{activityRule, activityOrder, activityRules}
 use borrow.Author.Needs.{needs}
 use Rattle.checks.proofs.activity_rules.Statement.{statement}
 use Rattle.checks.proofs.activity_rules.Tie as tie
 
 abbrev Inv-loop : tie.InvT-loop
-Inv-loop s r outside tables following₀ following =
-    firstBreak (untriedRules following (model s) (plan r)) ≡ firstBreak (activityRules (model s) (plan r))
+Inv-loop s r outside tables order k₀ k =
+    (k ≤ length activityOrder)
+    × (untried (λ rule. activityRule rule (model s) (plan r)) activityOrder k ≡ firstBreak (activityRules (model s) (plan r)))
 
 abbrev μ-loop : tie.MeasureT-loop
-μ-loop s r outside tables following₀ following = length (untried following)
+μ-loop s r outside tables order k₀ k = length activityOrder - k
 
 loop-holds : tie.Need-loop-holds Inv-loop μ-loop
 unfolding activityRules
-loop-holds c = refl
+loop-holds c = (omega arith, refl)
 
-enum-known-following : tie.Need-enum-known-following Inv-loop μ-loop
-enum-known-following c = search needs
+array-copy-out-rule : tie.Need-array-copy-out-rule Inv-loop μ-loop
+array-copy-out-rule c = omega arith
+
+over-activities-requires : tie.Need-over-activities-requires Inv-loop μ-loop
+over-activities-requires c κs = search needs
 
 enum-told : tie.Need-enum-told Inv-loop μ-loop
 enum-told c = search needs
 
 returns : tie.Need-returns Inv-loop μ-loop
 returns c =
-    let x = c .before .before .before .before .before .args in
-    rules-end (model (x .s .now)) (plan (x .r .now)) _ (c .enum-told .given .1) ∙ c .before .before .loop .inv
-
-over-activities-requires : tie.Need-over-activities-requires Inv-loop μ-loop
-over-activities-requires c κs = c .before .before .before .before .before .before .pre
+    let c4 = c .before .before .before .before in
+    let x = c4 .before .before .before .before .args in
+    let rules : ActivityRule → Rule = λ rule. activityRule rule (model (x .s .now)) (plan (x .r .now)) in
+    order-stops rules activityOrder (c4 .before .loop .k) ActivityRule.Window (omega (arith, c4 .loop-test .taken)) _
+    (c .before .before .over-activities .ensures) _ (c .enum-told .given .1)
+    ∙ c4 .before .loop .inv .1
 
 enum-told-2 : tie.Need-enum-told-2 Inv-loop μ-loop
 enum-told-2 c = search needs
 
-returns-2 : tie.Need-returns-2 Inv-loop μ-loop
-returns-2 c =
-    let c2 = c .before .before in
-    let c4 = c2 .before .before in
-    let c6 = c4 .before .before in
-    let x = c6 .before .before .before .args in
-    rule-breaks (model (x .s .now)) (plan (x .r .now)) _ _ (c4 .following .given .1) (c2 .over-activities .result)
-    (c2 .over-activities .ensures) _ (c .enum-told2 .given .1)
-    ∙ c6 .loop .inv
-
-enum-told-3 : tie.Need-enum-told-3 Inv-loop μ-loop
-enum-told-3 c = search needs
-
-next-requires : tie.Need-next-requires Inv-loop μ-loop
-next-requires c κs = search needs
+add-k : tie.Need-add-k Inv-loop μ-loop
+add-k c = omega arith
 
 loop-less : tie.Need-loop-less Inv-loop μ-loop
-loop-less c = one-less _ _ (c .before .before .before .before .before .following .given .1) _ (c .next .ensures)
+loop-less c = omega arith
 
 loop-again : tie.Need-loop-again Inv-loop μ-loop
 loop-again c =
-    let c3 = c .before .before .before in
-    let c5 = c3 .before .before in
-    let c7 = c5 .before .before in
-    let x = c7 .before .before .before .args in
-    rule-holds (model (x .s .now)) (plan (x .r .now)) _ _ (c5 .following .given .1) (c3 .over-activities .result)
-    (c3 .over-activities .ensures) _ (c .next .ensures) (c .before .enum-told3 .given .1)
-    ∙ c7 .loop .inv
+    let c4 = c .before .before .before .before in
+    let x = c4 .before .before .before .before .args in
+    let rules : ActivityRule → Rule = λ rule. activityRule rule (model (x .s .now)) (plan (x .r .now)) in (
+      omega arith,
+      order-goes-on rules activityOrder (c4 .before .loop .k) ActivityRule.Window (omega (arith, c4 .loop-test .taken)) _
+          (c .before .before .over-activities .ensures) (c .enum-told2 .given .1)
+          ∙ c4 .before .loop .inv .1,
+    )
+
+returns-2 : tie.Need-returns-2 Inv-loop μ-loop
+returns-2 c =
+    let l = c .before .loop in
+    let x = c .before .before .before .before .args in
+    let rules : ActivityRule → Rule = λ rule. activityRule rule (model (x .s .now)) (plan (x .r .now)) in
+    sym (order-ends rules activityOrder (l .k) (omega arith)) ∙ l .inv .1
 
 pub activity-rules-spec : {M : Type 1} → statement M
 activity-rules-spec =
@@ -74,13 +78,12 @@ activity-rules-spec =
     Inv-loop
     μ-loop
     loop-holds
-    enum-known-following
+    array-copy-out-rule
+    over-activities-requires
     enum-told
     returns
-    over-activities-requires
     enum-told-2
-    returns-2
-    enum-told-3
-    next-requires
+    add-k
     loop-less
-    loop-again)
+    loop-again
+    returns-2)

@@ -1,8 +1,9 @@
 -- `checks::grid_rules` meets its contract: the first broken rule of the list answers.
 -- Assumes nothing.
+use mathlib.Core.Path.{refl}
 use Rattle.schedule.specs.Model.{model}
 use Rattle.schedule.specs.Plan.{plan}
-use Rattle.checks.proofs.RuleOrder.{activities-stop, ticks-decide}
+use Rattle.checks.proofs.RuleOrder.{activities-stop, ticks-stop, plain-ends, strict-decides}
 use borrow.Author.Needs.{needs}
 use Rattle.checks.proofs.grid_rules.Statement.{statement}
 use Rattle.checks.proofs.grid_rules.Tie as tie
@@ -30,14 +31,43 @@ enum-told-2 : tie.Need-enum-told-2
 enum-told-2 c = search needs
 
 tick-rules-requires : tie.Need-tick-rules-requires
-tick-rules-requires c κs = search needs
+tick-rules-requires c κs = (refl, c .before .before .before .before .before .before .before .tabulate .ensures)
+
+enum-told-3 : tie.Need-enum-told-3
+enum-told-3 c = search needs
 
 returns-2 : tie.Need-returns-2
 returns-2 c =
-    let c4 = c .before .before .before .before in
-    let x = c4 .before .before .before .before .before .before .before .args in
-    ticks-decide (model (x .s .now)) (plan (x .r .now)) (x .strict) _ (c .tick-rules .result)
-    (c .before .before .enum-told2 .given .1) (c4 .activity-rules .ensures) (c .tick-rules .ensures)
+    let c2 = c .before .before in
+    let c6 = c2 .before .before .before .before in
+    let x = c6 .before .before .before .before .before .before .before .args in
+    ticks-stop (model (x .s .now)) (plan (x .r .now)) _ (c2 .tick-rules .result) (c2 .before .before .enum-told2 .given .1)
+    (c6 .activity-rules .ensures) (c2 .tick-rules .ensures) (x .strict) _ (c .enum-told3 .given .1)
+
+enum-told-4 : tie.Need-enum-told-4
+enum-told-4 c = search needs
+
+tick-rules-requires-2 : tie.Need-tick-rules-requires-2
+tick-rules-requires-2 c κs =
+    let c6 = c .before .before .before .before .before .before in
+    (refl, c6 .before .before .before .before .before .before .tabulate .ensures)
+
+returns-3 : tie.Need-returns-3
+returns-3 c =
+    let c5 = c .before .before .before .before .before in
+    let c9 = c5 .before .before .before .before in
+    let x = c9 .before .before .before .before .before .before .before .args in
+    strict-decides (model (x .s .now)) (plan (x .r .now)) _ (c5 .tick-rules .result) (c5 .before .before .enum-told2 .given .1)
+    (c9 .activity-rules .ensures) (c5 .tick-rules .ensures) (x .strict) (c .tick-rules2 .result) (c .before .before .if1 .taken)
+    (c .before .before .before .enum-told4 .given .1) (c .tick-rules2 .ensures)
+
+returns-4 : tie.Need-returns-4
+returns-4 c =
+    let c3 = c .before .before .before in
+    let c7 = c3 .before .before .before .before in
+    let x = c7 .before .before .before .before .before .before .before .args in
+    plain-ends (model (x .s .now)) (plan (x .r .now)) _ (c3 .tick-rules .result) (c3 .before .before .enum-told2 .given .1)
+    (c7 .activity-rules .ensures) (c3 .tick-rules .ensures) (x .strict) (c .if1 .left) (c .before .enum-told4 .given .1)
 
 pub grid-rules-spec : {M : Type 1} → statement M
 grid-rules-spec =
@@ -50,4 +80,9 @@ grid-rules-spec =
     returns
     enum-told-2
     tick-rules-requires
-    returns-2)
+    enum-told-3
+    returns-2
+    enum-told-4
+    tick-rules-requires-2
+    returns-3
+    returns-4)

@@ -1,47 +1,95 @@
--- `checks::tick_rules` meets its contract: rules 28 and 29, and where they hold 30 and 31 of the strict check. Assumes nothing.
+-- `checks::tick_rules` meets its contract: the rules tried hold, and those that are left decide.
+-- Assumes nothing.
+use native.Mathlib.Omega.{arith}
+use Prim.Native.Nat.{_≤_, _-_}
+use mathlib.Core.Path.{_≡_, sym, ap, _∙_}
+use lib.ListN.{length}
+use Rattle.schedule.specs.Rule.{Rule, firstBreak}
 use Rattle.schedule.specs.Model.{model}
 use Rattle.schedule.specs.Plan.{plan}
-use Rattle.checks.proofs.RuleOrder.{plain-stops, plain-holds, strict-decides}
+use Rattle.records.proofs.Orders.{untried, order-stops, order-goes-on, order-ends}
+use Rattle.checks.specs.declared.tick.TickRule.{TickRule}
+use Rattle.checks.specs.Tables.{tickRule}
+use Rattle.checks.specs.Rules.{tickRules}
+use Rattle.checks.proofs.RuleOrder.{ticks-named}
 use borrow.Author.Needs.{needs}
 use Rattle.checks.proofs.tick_rules.Statement.{statement}
 use Rattle.checks.proofs.tick_rules.Tie as tie
 
-two-rules-requires : tie.Need-two-rules-requires
-two-rules-requires c κs = c .before .before .pre
+abbrev Inv-loop : tie.InvT-loop
+Inv-loop s r tables order k₀ k =
+    (k ≤ 2) × (length order ≡ 2)
+    × (untried (λ rule. tickRule rule (model s) (plan r)) order k ≡ firstBreak (tickRules order (model s) (plan r)))
 
-enum-told : tie.Need-enum-told
+abbrev μ-loop : tie.MeasureT-loop
+μ-loop s r tables order k₀ k = 2 - k
+
+loop-holds : tie.Need-loop-holds Inv-loop μ-loop
+loop-holds c =
+    let x = c .before .before .args in
+    (omega arith, c .before .before .pre .0, ap firstBreak (ticks-named (model (x .s .now)) (plan (x .r .now)) (x .t1)))
+
+array-copy-out-rule : tie.Need-array-copy-out-rule Inv-loop μ-loop
+array-copy-out-rule c = omega arith
+
+over-ticks-requires : tie.Need-over-ticks-requires Inv-loop μ-loop
+over-ticks-requires c κs = search needs
+
+enum-told : tie.Need-enum-told Inv-loop μ-loop
 enum-told c = search needs
 
-returns : tie.Need-returns
+returns : tie.Need-returns Inv-loop μ-loop
 returns c =
-    let x = c .before .before .before .before .before .args in
-    plain-stops (model (x .s .now)) (plan (x .r .now)) (x .strict) _ _ (c .enum-told .given .1) (c .before .before .two-rules .ensures)
+    let c4 = c .before .before .before .before in
+    let l = c4 .before .loop in
+    let x = c4 .before .before .before .before .args in
+    let rules : TickRule → Rule = λ rule. tickRule rule (model (x .s .now)) (plan (x .r .now)) in
+    order-stops rules (x .t1) (l .k) TickRule.Cores (omega (arith, l .inv .1, c4 .loop-test .taken)) _
+    (c .before .before .over-ticks .ensures) _ (c .enum-told .given .1)
+    ∙ l .inv .2
 
-enum-told-2 : tie.Need-enum-told-2
+enum-told-2 : tie.Need-enum-told-2 Inv-loop μ-loop
 enum-told-2 c = search needs
 
-two-rules-requires-2 : tie.Need-two-rules-requires-2
-two-rules-requires-2 c κs = c .before .before .before .before .before .before .pre
+add-k : tie.Need-add-k Inv-loop μ-loop
+add-k c = omega arith
 
-returns-2 : tie.Need-returns-2
+loop-less : tie.Need-loop-less Inv-loop μ-loop
+loop-less c = omega arith
+
+loop-again : tie.Need-loop-again Inv-loop μ-loop
+loop-again c =
+    let c4 = c .before .before .before .before in
+    let l = c4 .before .loop in
+    let x = c4 .before .before .before .before .args in
+    let rules : TickRule → Rule = λ rule. tickRule rule (model (x .s .now)) (plan (x .r .now)) in (
+      omega arith,
+      l .inv .1,
+      order-goes-on rules (x .t1) (l .k) TickRule.Cores (omega (arith, l .inv .1, c4 .loop-test .taken)) _
+          (c .before .before .over-ticks .ensures) (c .enum-told2 .given .1)
+          ∙ l .inv .2,
+    )
+
+returns-2 : tie.Need-returns-2 Inv-loop μ-loop
 returns-2 c =
-    let x = c .before .before .before .before .before .before .before .args in
-    strict-decides (model (x .s .now)) (plan (x .r .now)) (x .strict) _ (c .two-rules2 .result) (c .before .if1 .taken) (c .before .before .enum-told2 .given .1)
-    (c .before .before .before .before .two-rules .ensures) (c .two-rules2 .ensures)
-
-returns-3 : tie.Need-returns-3
-returns-3 c =
-    let x = c .before .before .before .before .before .before .args in
-    plain-holds (model (x .s .now)) (plan (x .r .now)) (x .strict) _ (c .if1 .left) (c .before .enum-told2 .given .1) (c .before .before .before .two-rules .ensures)
+    let l = c .before .loop in
+    let x = c .before .before .before .before .args in
+    let rules : TickRule → Rule = λ rule. tickRule rule (model (x .s .now)) (plan (x .r .now)) in
+    sym (order-ends rules (x .t1) (l .k) (omega (arith, l .inv .1, c .loop-test .left))) ∙ l .inv .2
 
 pub tick-rules-spec : {M : Type 1} → statement M
 tick-rules-spec =
     tie.close
     (tie.spec
-    two-rules-requires
+    Inv-loop
+    μ-loop
+    loop-holds
+    array-copy-out-rule
+    over-ticks-requires
     enum-told
     returns
     enum-told-2
-    two-rules-requires-2
-    returns-2
-    returns-3)
+    add-k
+    loop-less
+    loop-again
+    returns-2)

@@ -3,7 +3,8 @@
 use mathlib.Core.Path.{sym, ap, _∙_}
 use borrow.Author.Needs.{needs}
 use Rattle.records.specs.Reads.{modelReadNumbers, choiceReadNumbers}
-use Rattle.run.proofs.RunLaws.{answer-refuses, answer-accepts, model-breaks, model-holds, input-refused, input-passed, form-says}
+use Rattle.records.proofs.Reading.{answer-refuses, answer-accepts}
+use Rattle.run.proofs.RunLaws.{model-breaks, model-holds, input-refused, input-passed, form-says}
 use Rattle.run.proofs.run.Statement.{statement}
 use Rattle.run.proofs.run.Tie as tie
 

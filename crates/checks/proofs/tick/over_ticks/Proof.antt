@@ -20,13 +20,13 @@ use Rattle.checks.proofs.tick.over_ticks.Statement.{statement}
 use Rattle.checks.proofs.tick.over_ticks.Tie as tie
 
 abbrev Inv-loop : tie.InvT-loop
-Inv-loop rule s r tables masks cores n horizon waitable₀ t₀ waitable t =
+Inv-loop rule s r tables cores n horizon outranked waitable₀ t₀ waitable t =
     (t ≤ horizon) × (horizon ≡ model s .horizon) × (n ≡ model s .activities) × (cores ≡ model s .cores)
     × Tabulated (model s) (plan r) tables × ClearTo (tickRule rule (model s) (plan r)) t
-    × Stands (openOf n (froms tables) (ends tables)) waitable t × Ranked rule (model s) masks
+    × Stands (openOf n (froms tables) (ends tables)) waitable t × Ranked rule (model s) outranked
 
 abbrev μ-loop : tie.MeasureT-loop
-μ-loop rule s r tables masks cores n horizon waitable₀ t₀ waitable t = horizon - t
+μ-loop rule s r tables cores n horizon outranked waitable₀ t₀ waitable t = horizon - t
 
 counts-requires : tie.Need-counts-requires Inv-loop μ-loop
 counts-requires c κs = search needs
@@ -37,21 +37,25 @@ cast-cores c = search needs
 cast-n : tie.Need-cast-n Inv-loop μ-loop
 cast-n c = search needs
 
+outranked-by-requires : tie.Need-outranked-by-requires Inv-loop μ-loop
+outranked-by-requires c κs = search needs
+
 unknown-requires : tie.Need-unknown-requires Inv-loop μ-loop
 unknown-requires c κs = search needs
 
 loop-holds : tie.Need-loop-holds Inv-loop μ-loop
 unfolding sizesOf
 loop-holds c =
-    let e = c .before .before .before .counts .ensures in (
+    let c4 = c .before .before .before .before in
+    let e = c4 .counts .ensures in (
       omega arith,
       ap (λ (y : Sizes). y .horizon) e,
       ap (λ (y : Sizes). y .activities) e,
       ap (λ (y : Sizes). y .cores) e,
-      c .before .before .before .before .before .before .pre .0,
+      c4 .before .before .before .pre,
       clear-start _,
       stands-unknown _ _ _ (c .unknown .ensures),
-      c .before .before .before .before .before .before .pre .1,
+      c .before .outranked-by .ensures,
     )
 
 index-1-at : tie.Need-index-1-at Inv-loop μ-loop
@@ -79,7 +83,9 @@ name-requires : tie.Need-name-requires Inv-loop μ-loop
 name-requires c κs = search needs
 
 cast-refused : tie.Need-cast-refused Inv-loop μ-loop
-cast-refused c = search needs
+cast-refused c =
+    let c9 = c .before .before .before .before .before .before .before .before .before in
+    omega (arith, c9 .loop-test .taken, c9 .before .before .before .before .struct-known2 .given)
 
 refused-requires : tie.Need-refused-requires Inv-loop μ-loop
 refused-requires c κs = search needs
@@ -87,21 +93,21 @@ refused-requires c κs = search needs
 returns : tie.Need-returns Inv-loop μ-loop
 returns c =
     let c4 = c .before .before .before .before in
-    let c6 = c4 .before .before in
-    let c9 = c6 .before .before .before in
-    let l = c9 .before .loop in
-    let x = c9 .before .before .before .before .before .before .before .before .args in
+    let c7 = c4 .before .before .before in
+    let c10 = c7 .before .before .before in
+    let l = c10 .before .loop in
+    let x = c10 .before .before .before .before .before .before .before .before .before .args in
     let m = model (x .s .now) in
     let p = plan (x .r .now) in
     let mask =
-    tick-read (x .rule) m p (x .tables .now) (x .masks .now) (l .inv .4) (l .inv .7) (l .t) _ _ _ _ _
-    (c4 .breaking .ensures) (c4 .before .word .ensures) (l .inv .3) (c6 .at .ensures .0) (l .inv .2) in
+    tick-read (x .rule) m p (x .tables .now) _ (l .inv .4) (l .inv .7) (l .t) _ _ _ _ _
+    (c4 .breaking .ensures) (c4 .before .before .word .ensures) (l .inv .3) (c7 .at .ensures .0) (l .inv .2) in
     let few = tick-columns (x .rule) m p (l .inv .4 .few) in
     c .refused .ensures
     ∙ ap (λ (k : ℕ). some (record { number = k; A = l .t; B = c .before .before .before .lowest .result }))
     (ap ruleNumber (c .before .name .ensures) ∙ tick-number (x .rule) m p)
     ∙ sym (clear-stop (tickRule (x .rule) m p) (l .t) _ (l .inv .5)
-    (omega (arith, tick-rows (x .rule) m p, l .inv .1, c9 .loop-test .taken))
+    (omega (arith, tick-rows (x .rule) m p, l .inv .1, c10 .loop-test .taken))
     (row-stops (tickRule (x .rule) m p) (l .t) _ _ few mask (c .before .before .before .lowest .ensures) (c .before .before .if1 .taken)))
 
 add-t : tie.Need-add-t Inv-loop μ-loop
@@ -112,15 +118,15 @@ loop-less c = omega arith
 
 loop-again : tie.Need-loop-again Inv-loop μ-loop
 loop-again c =
-    let c4 = c .before .before .before .before in
-    let c8 = c4 .before .before .before .before in
-    let l = c8 .loop in
-    let x = c8 .before .before .before .before .before .before .before .args in
+    let c5 = c .before .before .before .before .before in
+    let c9 = c5 .before .before .before .before in
+    let l = c9 .loop in
+    let x = c9 .before .before .before .before .before .before .before .before .args in
     let m = model (x .s .now) in
     let p = plan (x .r .now) in
     let mask =
-    tick-read (x .rule) m p (x .tables .now) (x .masks .now) (l .inv .4) (l .inv .7) (l .t) _ _ _ _ _
-    (c .before .before .breaking .ensures) (c .before .before .before .word .ensures) (l .inv .3) (c4 .at .ensures .0) (l .inv .2) in
+    tick-read (x .rule) m p (x .tables .now) _ (l .inv .4) (l .inv .7) (l .t) _ _ _ _ _
+    (c .before .before .breaking .ensures) (c .before .before .before .before .word .ensures) (l .inv .3) (c5 .at .ensures .0) (l .inv .2) in
     let few = tick-columns (x .rule) m p (l .inv .4 .few) in (
       omega arith,
       l .inv .1,
@@ -129,14 +135,14 @@ loop-again c =
       l .inv .4,
       clear-again (tickRule (x .rule) m p) (l .t) (l .inv .5)
           (row-goes-on (tickRule (x .rule) m p) (l .t) _ _ few mask (c .before .lowest .ensures) (c .if1 .left)),
-      stands-on _ _ _ (c4 .at .ensures .1),
+      stands-on _ _ _ (c5 .at .ensures .1),
       l .inv .7,
     )
 
 returns-2 : tie.Need-returns-2 Inv-loop μ-loop
 returns-2 c =
     let l = c .before .loop in
-    let x = c .before .before .before .before .before .before .before .before .args in
+    let x = c .before .before .before .before .before .before .before .before .before .args in
     let r = tickRule (x .rule) (model (x .s .now)) (plan (x .r .now)) in
     let whole : l .t ≡ r .rows = omega (arith, tick-rows (x .rule) (model (x .s .now)) (plan (x .r .now)), l .inv .1) in
     sym (clear-end r (subst (ClearTo r) whole (l .inv .5)))
@@ -150,6 +156,7 @@ over-ticks-spec =
     counts-requires
     cast-cores
     cast-n
+    outranked-by-requires
     unknown-requires
     loop-holds
     index-1-at

@@ -6,14 +6,15 @@ use mathlib.Core.Path.{_≡_, refl, sym, _∙_}
 use lib.ListN.{length}
 use Rattle.schedule.specs.Rule.{firstBreak}
 use Rattle.schedule.specs.Model.{model}
-use Rattle.records.specs.RowRules.{rowOrder, rowRules}
-use Rattle.records.proofs.RowOrder.{untried, order-stops, order-goes-on, order-ends}
+use Rattle.records.specs.declared.model.RowRule.{RowRule}
+use Rattle.records.specs.RowRules.{rowRule, rowOrder, rowRules}
+use Rattle.records.proofs.Orders.{untried, order-stops, order-goes-on, order-ends}
 use borrow.Author.Needs.{needs}
 use Rattle.records.proofs.model.row_rules.Statement.{statement}
 use Rattle.records.proofs.model.row_rules.Tie as tie
 
 abbrev Inv-loop : tie.InvT-loop
-Inv-loop s order k₀ k = (k ≤ length rowOrder) × (untried (model s) k ≡ firstBreak (rowRules (model s)))
+Inv-loop s order k₀ k = (k ≤ length rowOrder) × (untried (λ rule. rowRule rule (model s)) rowOrder k ≡ firstBreak (rowRules (model s)))
 
 abbrev μ-loop : tie.MeasureT-loop
 μ-loop s order k₀ k = length rowOrder - k
@@ -36,7 +37,7 @@ returns c =
     let c4 = c .before .before .before .before in
     let c5 = c4 .before in
     let x = c5 .before .before .args in
-    order-stops (model (x .s .now)) (c5 .loop .k) (omega (arith, c4 .loop-test .taken)) _
+    order-stops (λ rule. rowRule rule (model (x .s .now))) rowOrder (c5 .loop .k) RowRule.Thread (omega (arith, c4 .loop-test .taken)) _
     (c .before .before .over-rows .ensures) _ (c .enum-told .given .1)
     ∙ c5 .loop .inv .1
 
@@ -55,7 +56,8 @@ loop-again c =
     let c5 = c4 .before in
     let x = c5 .before .before .args in (
       omega arith,
-      order-goes-on (model (x .s .now)) (c5 .loop .k) (omega (arith, c4 .loop-test .taken)) _
+      order-goes-on (λ rule. rowRule rule (model (x .s .now))) rowOrder (c5 .loop .k) RowRule.Thread
+          (omega (arith, c4 .loop-test .taken)) _
           (c .before .before .over-rows .ensures) (c .enum-told2 .given .1)
           ∙ c5 .loop .inv .1,
     )
@@ -63,7 +65,8 @@ loop-again c =
 returns-2 : tie.Need-returns-2 Inv-loop μ-loop
 returns-2 c =
     let l = c .before .loop in
-    sym (order-ends (model (c .before .before .before .args .s .now)) (l .k) (omega arith)) ∙ l .inv .1
+    let m = model (c .before .before .before .args .s .now) in
+    sym (order-ends (λ rule. rowRule rule m) rowOrder (l .k) (omega arith)) ∙ l .inv .1
 
 pub row-rules-spec : {M : Type 1} → statement M
 row-rules-spec =

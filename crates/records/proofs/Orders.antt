@@ -1,0 +1,60 @@
+-- Rules tried in the order of their names, and lists of rules one behind the other: a pass that is refused ends the list,
+-- one that holds leaves the answer to the rest.
+-- Assumes nothing.
+use Prim.Native.Nat.{ℕ, _+_, _≤_, _<_}
+use native.Mathlib.Numerals.{add-one}
+use native.Mathlib.Omega.{arith}
+use mathlib.Core.List.{List, [], _∷_, _++_}
+use mathlib.Core.Option.{Option, some, none}
+use mathlib.Core.Path.{_≡_, sym, ap, _∙_}
+use lib.ListN.{length, drop, getD, drop-of-length-le}
+use lib.Seq.{drop-cons}
+use Rattle.schedule.specs.Rule
+use Rattle.schedule.specs.Rule.{Rule, break, firstBreak}
+use Rattle.schedule.specs.Numbers.{refusalNumbers}
+use Rattle.schedule.specs.declared.Refusal.{Refusal}
+use Rattle.laws.proofs.FirstBreak.{append-none, append-some}
+use Rattle.records.specs.declared.Pass.{Pass}
+use Rattle.records.specs.Reads.{passNumbers}
+use Rattle.records.proofs.Reading.{orElse, pass-refused, pass-holds, rule-next, rule-end}
+
+-- the rules of a list of names, where a function gives the rule of a name
+abbrev pub rulesNamed : {N : Type 0} → (N → Rule) → List N → List Rule
+rulesNamed ruleOf [] = []
+rulesNamed ruleOf (x ∷ xs) = ruleOf x ∷ rulesNamed ruleOf xs
+
+-- what is left to be tried once k of them have been
+abbrev pub untried : {N : Type 0} → (N → Rule) → List N → ℕ → Option Rule.Refusal
+untried ruleOf order k = firstBreak (rulesNamed ruleOf (drop k order))
+
+module _ {N : Type 0} (ruleOf : N → Rule) (order : List N) (k : ℕ) (any : N) (less : k < length order) (pass : Pass)
+    (e : passNumbers pass ≡ break (ruleOf (getD order k any))) where
+  -- rule k, then those behind it
+  parted : untried ruleOf order k ≡ orElse (break (ruleOf (getD order k any))) (untried ruleOf order (k + 1))
+  parted =
+      ap (λ (l : List N). firstBreak (rulesNamed ruleOf l)) (drop-cons order k any less)
+      ∙ rule-next _ _
+      ∙ ap (λ (n : ℕ). orElse (break (ruleOf (getD order k any))) (untried ruleOf order n)) (sym (add-one k))
+
+  -- it is broken, and that is the answer
+  pub order-stops : (x : Refusal) → pass ≡ Pass.Refused x → passNumbers pass ≡ untried ruleOf order k
+  order-stops x told = ap passNumbers told ∙ pass-refused _ _ (untried ruleOf order (k + 1)) pass parted e x told
+
+  -- it holds, and the rest decides
+  pub order-goes-on : pass ≡ Pass.Holds → untried ruleOf order (k + 1) ≡ untried ruleOf order k
+  order-goes-on told = sym (pass-holds _ _ (untried ruleOf order (k + 1)) pass parted e told)
+
+-- all are tried
+pub order-ends : {N : Type 0} (ruleOf : N → Rule) (order : List N) (k : ℕ) → length order ≤ k → untried ruleOf order k ≡ none
+order-ends {N} ruleOf order k whole =
+    ap (λ (l : List N). firstBreak (rulesNamed ruleOf l)) (drop-of-length-le order {i = k} whole) ∙ rule-end
+
+-- lists of rules one behind the other
+pub list-stops : (p : Pass) (x : Refusal) (xs ys : List Rule) → p ≡ Pass.Refused x → passNumbers p ≡ firstBreak xs
+    → passNumbers p ≡ firstBreak (xs ++ ys)
+list-stops p x xs ys told e =
+    ap passNumbers told ∙ sym (append-some xs ys (refusalNumbers x) (sym e ∙ ap passNumbers told))
+
+pub list-goes-on : (p : Pass) (xs ys : List Rule) (q : Option Rule.Refusal) → p ≡ Pass.Holds → passNumbers p ≡ firstBreak xs
+    → q ≡ firstBreak ys → q ≡ firstBreak (xs ++ ys)
+list-goes-on p xs ys q told e h = h ∙ sym (append-none xs ys (sym e ∙ ap passNumbers told))
