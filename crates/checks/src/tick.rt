@@ -124,11 +124,12 @@ pub(crate) fn over_ticks(rule: TickRule, s: &[u8], r: &[u8], tables: &Tables) ->
     let n = sizes.activities as usize;
     let horizon = sizes.horizon;
     let outranked = outranked_by(rule, s);
+    let grid = records::plan::words(r);
     let mut waitable = ticks::unknown();
     let mut t: u16 = 0;
     while t < horizon {
         waitable = windows::at(waitable, n, &tables[FROMS], &tables[ENDS], t as u32);
-        let word = records::plan::word(r, t);
+        let word = records::grid::word(grid, t as usize);
         let b = bits::lowest(breaking(rule, word, cores, waitable.word, &outranked));
         if b < 32 {
             return refused(name(rule), t as u32, b);

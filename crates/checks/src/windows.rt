@@ -87,12 +87,13 @@ fn outside(r: &[u8], horizon: u16, n: usize, starts: &[u32; 32], ends: &[u32; 32
         ≡ not (all horizon (λ t. active (plan (now (r .entry))) t a
         ⇒ (leb (getD (now (starts .entry)) a 0) t && ltb t (getD (now (ends .entry)) a 0))))) ⌝ }
 {
+    let grid = records::plan::words(r);
     let mut strays: u32 = 0;
     let mut windows = ticks::unknown();
     let mut t: u16 = 0;
     while t < horizon {
         windows = at(windows, n, starts, ends, t as u32);
-        strays = strays | without(records::plan::word(r, t), windows.word);
+        strays = strays | without(records::grid::word(grid, t as usize), windows.word);
         t += 1;
     }
     strays

@@ -14,7 +14,7 @@ use schedule::FormRefusal;
 use schedule::Refusal;
 ghost use mathlib.Core.Path.{_≡_};
 ghost use Prim.Native.Nat.{_+_, _≤_, _<_};
-ghost use lib.ListN.{length};
+ghost use lib.ListN.{length, drop};
 ghost use Rattle.schedule.specs.Fields.{pair};
 ghost use Rattle.schedule.specs.Rule.{break, firstBreak};
 ghost use Rattle.schedule.specs.Model.{model};
@@ -116,6 +116,15 @@ pub fn word(r: &[u8], t: u16) -> u32
     let sizes = counts(r);
     let at = grid_at(sizes.threads, sizes.activities);
     fields::be32(r, at + grid::tick_at(t as usize))
+}
+
+// The words of all ticks, of any bytes: the part behind the rows, to the end; empty where a plan does not reach so far.
+pub fn words(r: &[u8]) -> &[u8]
+    ensures { λ x. ⌜ now x ≡ drop (gridAt (plan (now (r .entry)) .threads) (plan (now (r .entry)) .activities)) (now (r .entry)) ⌝ }
+{
+    let sizes = counts(r);
+    let at = grid_at(sizes.threads, sizes.activities);
+    if at <= r.len() { &r[at..] } else { &r[0..0] }
 }
 
 // ---- writing, each part whole or not at all

@@ -27,10 +27,11 @@ pub fn counts(s: &[u8], r: &[u8]) -> [u32; 32]
 {
     let sizes = records::model::counts(s);
     let horizon = sizes.horizon;
+    let grid = records::plan::words(r);
     let mut counted = [0u32; 32];
     let mut t: u16 = 0;
     while t < horizon {
-        tally(records::plan::word(r, t), &mut counted);
+        tally(records::grid::word(grid, t as usize), &mut counted);
         t += 1;
     }
     counted

@@ -7,18 +7,18 @@ use schedule::Figures;
 ghost use mathlib.Core.Path.{_≡_};
 ghost use Rattle.schedule.specs.Bounded.{ones, total, greatest, least};
 ghost use Rattle.schedule.specs.Model.{model};
-ghost use Rattle.schedule.specs.Plan.{plan};
+ghost use Rattle.schedule.specs.Plan.{plan, wordIn};
 ghost use Rattle.schedule.specs.Answers.{figures};
 ghost use Rattle.schedule.specs.Numbers.{figureNumbers};
 
-// All ones, counted from the words.
-fn usage(r: &[u8], horizon: u16) -> u32
-    ensures { λ x. ⌜ x ≡ total horizon (λ t. ones (plan (now (r .entry)) .word t)) ⌝ }
+// All ones, counted from the words of a grid.
+fn usage(grid: &[u8], horizon: u16) -> u32
+    ensures { λ x. ⌜ x ≡ total horizon (λ t. ones (wordIn (now (grid .entry)) t)) ⌝ }
 {
     let mut sum: u32 = 0;
     let mut t: u16 = 0;
     while t < horizon {
-        sum += bits::ones(records::plan::word(r, t));
+        sum += bits::ones(records::grid::word(grid, t as usize));
         t += 1;
     }
     sum
@@ -74,12 +74,14 @@ pub fn figures(s: &[u8], r: &[u8]) -> Figures
     ensures { λ x. ⌜ figureNumbers x ≡ figures (model (now (s .entry))) (plan (now (r .entry))) ⌝ }
 {
     let sizes = records::model::counts(s);
+    let cores = sizes.cores as u32;
+    let horizon = sizes.horizon as u32;
+    let capacity = cores * horizon;
+    let latest = latest_end(r, sizes.activities);
+    let first = least_release(r, sizes.threads);
     Figures {
-        usage: usage(r, sizes.horizon),
-        capacity: (sizes.cores as u32) * (sizes.horizon as u32),
-        makespan: less(
-            latest_end(r, sizes.activities),
-            least_release(r, sizes.threads),
-        ),
+        usage: usage(records::plan::words(r), sizes.horizon),
+        capacity,
+        makespan: less(latest, first),
     }
 }

@@ -9,6 +9,7 @@ use Rattle.schedule.specs.Numbers.{ruleNumber}
 use Rattle.records.specs.declared.model.Sizes.{Sizes}
 use Rattle.records.specs.Rows.{sizesOf}
 use Rattle.laws.proofs.RowLaws.{ClearTo, clear-start, clear-again, clear-end, clear-stop}
+use Rattle.tables.proofs.CountLaws.{word-read}
 use Rattle.ticks.specs.Kept.{Stands}
 use Rattle.ticks.proofs.KeptLaws.{stands-unknown, stands-on}
 use Rattle.checks.specs.Tables.{ends, froms, tickRule, Tabulated, Ranked}
@@ -20,13 +21,13 @@ use Rattle.checks.proofs.tick.over_ticks.Statement.{statement}
 use Rattle.checks.proofs.tick.over_ticks.Tie as tie
 
 abbrev Inv-loop : tie.InvT-loop
-Inv-loop rule s r tables cores n horizon outranked waitable₀ t₀ waitable t =
+Inv-loop rule s r tables cores n horizon outranked grid waitable₀ t₀ waitable t =
     (t ≤ horizon) × (horizon ≡ model s .horizon) × (n ≡ model s .activities) × (cores ≡ model s .cores)
     × Tabulated (model s) (plan r) tables × ClearTo (tickRule rule (model s) (plan r)) t
     × Stands (openOf n (froms tables) (ends tables)) waitable t × Ranked rule (model s) outranked
 
 abbrev μ-loop : tie.MeasureT-loop
-μ-loop rule s r tables cores n horizon outranked waitable₀ t₀ waitable t = horizon - t
+μ-loop rule s r tables cores n horizon outranked grid waitable₀ t₀ waitable t = horizon - t
 
 counts-requires : tie.Need-counts-requires Inv-loop μ-loop
 counts-requires c κs = search needs
@@ -40,22 +41,25 @@ cast-n c = search needs
 outranked-by-requires : tie.Need-outranked-by-requires Inv-loop μ-loop
 outranked-by-requires c κs = search needs
 
+words-requires : tie.Need-words-requires Inv-loop μ-loop
+words-requires c κs = search needs
+
 unknown-requires : tie.Need-unknown-requires Inv-loop μ-loop
 unknown-requires c κs = search needs
 
 loop-holds : tie.Need-loop-holds Inv-loop μ-loop
 unfolding sizesOf
 loop-holds c =
-    let c4 = c .before .before .before .before in
-    let e = c4 .counts .ensures in (
+    let c5 = c .before .before .before .before .before in
+    let e = c5 .counts .ensures in (
       omega arith,
       ap (λ (y : Sizes). y .horizon) e,
       ap (λ (y : Sizes). y .activities) e,
       ap (λ (y : Sizes). y .cores) e,
-      c4 .before .before .before .pre,
+      c5 .before .before .before .pre,
       clear-start _,
       stands-unknown _ _ _ (c .unknown .ensures),
-      c .before .outranked-by .ensures,
+      c .before .before .outranked-by .ensures,
     )
 
 index-1-at : tie.Need-index-1-at Inv-loop μ-loop
@@ -69,6 +73,9 @@ cast-at c = search needs
 
 at-requires : tie.Need-at-requires Inv-loop μ-loop
 at-requires c κs = let l = c .before .before .before .loop in (omega (arith, l .inv .2, l .inv .4 .few), l .inv .6)
+
+cast-word : tie.Need-cast-word Inv-loop μ-loop
+cast-word c = search needs
 
 word-requires : tie.Need-word-requires Inv-loop μ-loop
 word-requires c κs = search needs
@@ -85,7 +92,7 @@ name-requires c κs = search needs
 cast-refused : tie.Need-cast-refused Inv-loop μ-loop
 cast-refused c =
     let c9 = c .before .before .before .before .before .before .before .before .before in
-    omega (arith, c9 .loop-test .taken, c9 .before .before .before .before .struct-known2 .given)
+    omega (arith, c9 .loop-test .taken, c9 .before .before .before .before .before .struct-known2 .given)
 
 refused-requires : tie.Need-refused-requires Inv-loop μ-loop
 refused-requires c κs = search needs
@@ -96,12 +103,13 @@ returns c =
     let c7 = c4 .before .before .before in
     let c10 = c7 .before .before .before in
     let l = c10 .before .loop in
-    let x = c10 .before .before .before .before .before .before .before .before .before .args in
+    let x = c10 .before .before .before .before .before .before .before .before .before .before .args in
     let m = model (x .s .now) in
     let p = plan (x .r .now) in
     let mask =
     tick-read (x .rule) m p (x .tables .now) _ (l .inv .4) (l .inv .7) (l .t) _ _ _ _ _
-    (c4 .breaking .ensures) (c4 .before .before .word .ensures) (l .inv .3) (c7 .at .ensures .0) (l .inv .2) in
+    (c4 .breaking .ensures)
+    (word-read (x .r .now) _ (l .t) _ (c10 .before .before .before .words .ensures) (c4 .before .before .word .ensures)) (l .inv .3) (c7 .at .ensures .0) (l .inv .2) in
     let few = tick-columns (x .rule) m p (l .inv .4 .few) in
     c .refused .ensures
     ∙ ap (λ (k : ℕ). some (record { number = k; A = l .t; B = c .before .before .before .lowest .result }))
@@ -111,7 +119,9 @@ returns c =
     (row-stops (tickRule (x .rule) m p) (l .t) _ _ few mask (c .before .before .before .lowest .ensures) (c .before .before .if1 .taken)))
 
 add-t : tie.Need-add-t Inv-loop μ-loop
-add-t c = omega arith
+add-t c =
+    let c8 = c .before .before .before .before .before .before .before .before in
+    omega (arith, c8 .loop-test .taken, c8 .before .before .before .before .before .struct-known2 .given)
 
 loop-less : tie.Need-loop-less Inv-loop μ-loop
 loop-less c = omega arith
@@ -121,12 +131,14 @@ loop-again c =
     let c5 = c .before .before .before .before .before in
     let c9 = c5 .before .before .before .before in
     let l = c9 .loop in
-    let x = c9 .before .before .before .before .before .before .before .before .args in
+    let x = c9 .before .before .before .before .before .before .before .before .before .args in
     let m = model (x .s .now) in
     let p = plan (x .r .now) in
     let mask =
     tick-read (x .rule) m p (x .tables .now) _ (l .inv .4) (l .inv .7) (l .t) _ _ _ _ _
-    (c .before .before .breaking .ensures) (c .before .before .before .before .word .ensures) (l .inv .3) (c5 .at .ensures .0) (l .inv .2) in
+    (c .before .before .breaking .ensures)
+    (word-read (x .r .now) _ (l .t) _ (c9 .before .before .words .ensures) (c .before .before .before .before .word .ensures))
+    (l .inv .3) (c5 .at .ensures .0) (l .inv .2) in
     let few = tick-columns (x .rule) m p (l .inv .4 .few) in (
       omega arith,
       l .inv .1,
@@ -142,7 +154,7 @@ loop-again c =
 returns-2 : tie.Need-returns-2 Inv-loop μ-loop
 returns-2 c =
     let l = c .before .loop in
-    let x = c .before .before .before .before .before .before .before .before .before .args in
+    let x = c .before .before .before .before .before .before .before .before .before .before .args in
     let r = tickRule (x .rule) (model (x .s .now)) (plan (x .r .now)) in
     let whole : l .t ≡ r .rows = omega (arith, tick-rows (x .rule) (model (x .s .now)) (plan (x .r .now)), l .inv .1) in
     sym (clear-end r (subst (ClearTo r) whole (l .inv .5)))
@@ -157,12 +169,14 @@ over-ticks-spec =
     cast-cores
     cast-n
     outranked-by-requires
+    words-requires
     unknown-requires
     loop-holds
     index-1-at
     index-1-at-2
     cast-at
     at-requires
+    cast-word
     word-requires
     breaking-requires
     lowest-requires
