@@ -58,7 +58,8 @@ fewer-any n p q few h none = ap not same
   where
     same : all 32 (λ i. not (p i)) ≡ all n (λ i. not (q i))
     same = T-ext _ _
-        (λ t. T-all n (λ i. not (q i)) .1 (λ i l. subst (λ (x : Bool). T (not x)) (h i l) (T-all 32 (λ i. not (p i)) .0 t i (omega (arith, few, l)))))
+        (λ t. T-all n (λ i. not (q i)) .1 (λ i l.
+        subst (λ (x : Bool). T (not x)) (h i l) (T-all 32 (λ i. not (p i)) .0 t i (omega (arith, few, l)))))
         (λ t. T-all 32 (λ i. not (p i)) .1 (λ i l. elim (decLt i n) [
           | yes k ↦ subst (λ (x : Bool). T (not x)) (sym (h i k)) (T-all n (λ i. not (q i)) .0 t i k)
           | no k ↦ subst (λ (x : Bool). T (not x)) (sym (none i (omega (arith, k)))) tt

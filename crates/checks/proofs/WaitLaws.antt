@@ -142,7 +142,8 @@ leb-not-ltb x y = T-ext _ _ (λ h. simp tests (λ l. omega (arith, T-leb x y .0 
 -- 29: with exactly c ones, the waiting with a priority above some active one's
 pub preemption-mask : (m : Model) (p : Plan) (t : ℕ) → m .activities ≤ 32
     → brokenMask (rule29 m p) t
-    ≡ cond (eqb (ones (p .word t)) (m .cores)) (bitAnd (waitingMask m p t) (outranking (m .activities) (rankMask m Order.Higher) (p .word t))) 0
+    ≡ cond (eqb (ones (p .word t)) (m .cores))
+    (bitAnd (waitingMask m p t) (outranking (m .activities) (rankMask m Order.Higher) (p .word t))) 0
 unfolding brokenMask rule29 rankMask
 preemption-mask m p t few =
     wordOf-ext (m .activities) _ _ (λ b _. ap (λ (x : Bool). not (eqb (ones (p .word t)) (m .cores) ⇒ waits m p t b ⇒ x))
@@ -164,7 +165,8 @@ not-both false false = refl
 -- 31: with exactly c ones, the waiting with the priority of some active activity with a larger number
 pub tie-mask : (m : Model) (p : Plan) (t : ℕ) → m .activities ≤ 32
     → brokenMask (rule31 m p) t
-    ≡ cond (eqb (ones (p .word t)) (m .cores)) (bitAnd (waitingMask m p t) (outranking (m .activities) (rankMask m Order.Level) (p .word t))) 0
+    ≡ cond (eqb (ones (p .word t)) (m .cores))
+    (bitAnd (waitingMask m p t) (outranking (m .activities) (rankMask m Order.Level) (p .word t))) 0
 unfolding brokenMask rule31 rankMask
 tie-mask m p t few =
     wordOf-ext (m .activities) _ _ (λ b _. ap not

@@ -31,7 +31,8 @@ module _ (rest a : ℕ) (fits : rest < 2 ^ 32) (more : ¬ (rest ≡ 0)) (low : a
   -- some activity of the word has q: the lowest, or one of the others
   any-next : (q : ℕ → Bool) → any 32 (λ i. bit rest i && q i) ≡ (q a || any 32 (λ i. bit (withoutBit rest a) i && q i))
   unfolding any
-  any-next q = flip (all 32 (λ i. not (bit rest i && q i))) (q a) (all 32 (λ i. not (bit (withoutBit rest a) i && q i))) (T-ext _ _ there back)
+  any-next q =
+      flip (all 32 (λ i. not (bit rest i && q i))) (q a) (all 32 (λ i. not (bit (withoutBit rest a) i && q i))) (T-ext _ _ there back)
     where
       flip : (x y z : Bool) → x ≡ (not y && z) → not x ≡ (y || not z)
       flip x true z e = ap not e

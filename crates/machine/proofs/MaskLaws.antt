@@ -236,7 +236,8 @@ stepping-next word t rest a less end owed ends owed′ ends′ h more low fits o
   within = still-within rest a (h .fits) more low word (h .within);
   sized = (length-set owed′ a less ∙ h .sized .0, length-set ends′ a end ∙ h .sized .1);
   owed-less = λ i l. elim (ℕ-discrete i a) [
-    | yes e ↦ subst (λ (j : ℕ). getD (set owed′ a less) j 0 ≡ getD owed j 0 - cond (bit word j && not (bit (withoutBit rest a) j)) 1 0) (sym e)
+    | yes e ↦ subst (λ (j : ℕ). getD (set owed′ a less) j 0
+        ≡ getD owed j 0 - cond (bit word j && not (bit (withoutBit rest a) j)) 1 0) (sym e)
         (getD-set-same owed′ a less 0 (omega (arith, here, h .sized .0)) ∙ o ∙ ap (λ (x : ℕ). x - 1) was
         ∙ sym (ap (λ (x : Bool). getD owed a 0 - cond x 1 0) stepped))
     | no ne ↦ getD-set-other owed′ a i less 0 ne ∙ h .owed-less i l
@@ -246,10 +247,12 @@ stepping-next word t rest a less end owed ends owed′ ends′ h more low fits o
     | yes e ↦ subst (λ (j : ℕ). getD (set ends′ a end) j 0
         ≡ cond ((bit word j && not (bit (withoutBit rest a) j)) && eqb (getD owed j 0) 1) (t + 1) (getD ends j 0)) (sym e)
         (getD-set-same ends′ a end 0 (omega (arith, here, h .sized .1)) ∙ f
-        ∙ ap₂ (λ (x y : ℕ). cond (eqb x 1) (t + 1) y) was (h .ends-next a here ∙ ap (λ (x : Bool). cond (x && eqb (getD owed a 0) 1) (t + 1) (getD ends a 0)) waits)
+        ∙ ap₂ (λ (x y : ℕ). cond (eqb x 1) (t + 1) y) was
+        (h .ends-next a here ∙ ap (λ (x : Bool). cond (x && eqb (getD owed a 0) 1) (t + 1) (getD ends a 0)) waits)
         ∙ sym (ap (λ (x : Bool). cond (x && eqb (getD owed a 0) 1) (t + 1) (getD ends a 0)) stepped))
     | no ne ↦ getD-set-other ends′ a i end 0 ne ∙ h .ends-next i l
-        ∙ sym (ap (λ (x : Bool). cond ((bit word i && not x) && eqb (getD owed i 0) 1) (t + 1) (getD ends i 0)) (kept rest a (h .fits) more low i l ne))
+        ∙ sym (ap (λ (x : Bool). cond ((bit word i && not x) && eqb (getD owed i 0) 1) (t + 1) (getD ends i 0))
+        (kept rest a (h .fits) more low i l ne))
   ];
 }
   where

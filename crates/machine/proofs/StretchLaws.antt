@@ -21,7 +21,8 @@ use Rattle.bits.proofs.WordLaws.{bit-zero}
 use Rattle.bits.proofs.Apart.{kept}
 use Rattle.ticks.specs.declared.Kept.{Kept}
 use Rattle.ticks.proofs.KeptLaws.{quiet-start, quiet-next, quiet-sooner, stands-unknown}
-use Rattle.machine.specs.Masks.{releases, delays, temporal, by-data, covered, endedFrom, endedMask, readyFrom, selectedFrom, readyMask, tickWord, Stepped}
+use Rattle.machine.specs.Masks.{releases, delays, temporal, by-data, covered, endedFrom, endedMask, readyFrom}
+use Rattle.machine.specs.Masks.{selectedFrom, readyMask, tickWord, Stepped}
 use Rattle.machine.proofs.MaskLaws.{nothing-less}
 use Rattle.machine.specs.Stretches.{Unchanged, Busy, Lasts}
 
@@ -83,7 +84,8 @@ module _ (n c : ℕ) (tables : List (List ℕ)) where
               × (eqb (getD owed′ a 0) 0 ≡ eqb (getD owed a 0) 0) × (getD ends′ a 0 ≡ getD ends a 0)
           active h =
               let two : u ≤ t + getD owed a 0 = busy a (omega arith) h in
-              let one : getD owed′ a 0 ≡ getD owed a 0 - 1 = less ∙ ap (λ (x : Bool). getD owed a 0 - cond x 1 0) (T-true (bit word a) h) in (
+              let one : getD owed′ a 0 ≡ getD owed a 0 - 1 = less
+              ∙ ap (λ (x : Bool). getD owed a 0 - cond x 1 0) (T-true (bit word a) h) in (
                 lt-ltb 0 (getD owed′ a 0) (omega (arith, one, two)) ∙ sym (lt-ltb 0 (getD owed a 0) (omega (arith, two))),
                 ne-eqb (getD owed′ a 0) 0 (omega (arith, one, two)) ∙ sym (ne-eqb (getD owed a 0) 0 (omega (arith, two))),
                 next ∙ ap₂ (λ (x y : Bool). cond (x && y) (t + 1) (getD ends a 0)) (T-true (bit word a) h)
@@ -93,7 +95,8 @@ module _ (n c : ℕ) (tables : List (List ℕ)) where
           idle : (¬ T (bit word a)) → (ltb 0 (getD owed′ a 0) ≡ ltb 0 (getD owed a 0))
               × (eqb (getD owed′ a 0) 0 ≡ eqb (getD owed a 0) 0) × (getD ends′ a 0 ≡ getD ends a 0)
           idle h =
-              let same : getD owed′ a 0 ≡ getD owed a 0 = less ∙ sym (nothing-less (getD owed a 0) (bit word a) (T-false (bit word a) h)) in (
+              let same : getD owed′ a 0 ≡ getD owed a 0 = less
+              ∙ sym (nothing-less (getD owed a 0) (bit word a) (T-false (bit word a) h)) in (
                 ap (ltb 0) same,
                 ap (λ (x : ℕ). eqb x 0) same,
                 next ∙ ap (λ (x : Bool). cond (x && eqb (getD owed a 0) 1) (t + 1) (getD ends a 0)) (T-false (bit word a) h),

@@ -47,7 +47,8 @@ entering-next word t rest a starts starts′ h more low fits = record {
   within = still-within rest a (h .fits) more low word (h .within);
   sized = length-set starts′ a t ∙ h .sized;
   entered = λ i l. elim (ℕ-discrete i a) [
-    | yes e ↦ subst (λ (j : ℕ). getD (set starts′ a t) j 0 ≡ cond (bit word j && not (bit (withoutBit rest a) j)) t (getD starts j 0)) (sym e)
+    | yes e ↦ subst (λ (j : ℕ). getD (set starts′ a t) j 0
+        ≡ cond (bit word j && not (bit (withoutBit rest a) j)) t (getD starts j 0)) (sym e)
         (getD-set-same starts′ a t 0 (omega (arith, here, h .sized))
         ∙ sym (ap₂ (λ (x y : Bool). cond (x && not y) t (getD starts a 0)) has (gone rest a (h .fits) more low)))
     | no ne ↦ getD-set-other starts′ a i t 0 ne ∙ h .entered i l
@@ -97,9 +98,11 @@ seen-next word h t seen w starts starts′ s l fits e entered = record {
   fits = or-lt 32 seen w (s .fits) fits;
   sized = entered .sized;
   started = λ a la x. ⊎-elim (before a la) (now-first a la x) (decT (bit seen a));
-  idle = λ a la x. clear-more (λ v. bit (word v) a) t (bit w a) (s .idle a la (λ y. x (seen-more a y))) (ap (λ (k : ℕ). bit k a) e) (λ y. x (word-more a y));
+  idle = λ a la x. clear-more (λ v. bit (word v) a) t (bit w a) (s .idle a la (λ y. x (seen-more a y)))
+      (ap (λ (k : ℕ). bit k a) e) (λ y. x (word-more a y));
   unset = λ a la x. entered .entered a la
-      ∙ ap (λ (b : Bool). cond b t (getD starts a 0)) (fresh a la ∙ ap (λ (b : Bool). b && not (bit seen a)) (T-false (bit w a) (λ y. x (word-more a y))))
+      ∙ ap (λ (b : Bool). cond b t (getD starts a 0))
+      (fresh a la ∙ ap (λ (b : Bool). b && not (bit seen a)) (T-false (bit w a) (λ y. x (word-more a y))))
       ∙ s .unset a la (λ y. x (seen-more a y));
 }
   where

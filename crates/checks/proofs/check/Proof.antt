@@ -33,16 +33,20 @@ enum-known-form c = search needs
 
 returns-2 : tie.Need-returns-2
 returns-2 c =
-    let x = c .before .before .before .before .before .before .before .before .before .args in
-    plan-stops (x .strict) (x .s .now) (x .r .now) _ _ (c .before .before .before .before .enum-told .given .1) (c .before .before .before .before .before .before .read .ensures) _ _ (c .before .form .given .1) (c .before .before .before .read3 .ensures)
+    let c4 = c .before .before .before .before in
+    let x = c4 .before .before .before .before .before .args in
+    plan-stops (x .strict) (x .s .now) (x .r .now) _ _ (c4 .enum-told .given .1) (c4 .before .before .read .ensures) _ _
+    (c .before .form .given .1) (c .before .before .before .read3 .ensures)
 
 enum-told-2 : tie.Need-enum-told-2
 enum-told-2 c = search needs
 
 grid-rules-requires : tie.Need-grid-rules-requires
 grid-rules-requires c κs =
-    let x = c .before .before .before .before .before .before .before .before .args in
-    model-says (x .s .now) (model-formed (x .strict) (x .s .now) (x .r .now) _ _ (c .before .before .before .enum-told .given .1) (c .before .before .before .before .before .read .ensures))
+    let c3 = c .before .before .before in
+    let x = c3 .before .before .before .before .before .args in
+    model-says (x .s .now)
+    (model-formed (x .strict) (x .s .now) (x .r .now) _ _ (c3 .enum-told .given .1) (c3 .before .before .read .ensures))
 
 enum-known-rules : tie.Need-enum-known-rules
 enum-known-rules c = search needs

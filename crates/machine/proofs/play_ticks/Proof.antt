@@ -93,13 +93,14 @@ loop-less c =
 
 loop-again : tie.Need-loop-again Inv-loop μ-loop
 loop-again c =
-    let c7 = c .before .before .before .before .before .before .before in
+    let c4 = c .before .before .before .before in
+    let c7 = c4 .before .before .before in
     let c10 = c7 .before .before .before in
     let c11 = c10 .before in
     let c19 = c11 .before .before .before .before .before .before .before .before in
     let l = c11 .loop in
     let at = c7 .at in
-    let step = c .before .before .before .before .step .ensures in (
+    let step = c4 .step .ensures in (
       running-next _ _ _ (l .grid) (l .owed) (l .ends) (l .t) (l .inv .0) _ _ _ (at .result .word) _ _ _
           (c19 .before .before .pre) (l .inv .2) (l .inv .3) (omega (arith, l .inv .4, c10 .loop-test .taken))
           (at .ensures .0) step (c .before .before .put-word .ensures),

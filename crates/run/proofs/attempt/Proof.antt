@@ -40,7 +40,8 @@ returns-2 c =
     let c10 = c .before .before .before .before .before .before .before .before .before .before in
     let c12 = c10 .before .before in
     let c13 = c12 .before in
-    outcome-answers _ _ _ _ _ _ _ _ (omega (arith, c13 .needed .ensures, c12 .if1 .left)) (c10 .write-grid .ensures) (c .before .before .conclude .ensures)
+    outcome-answers _ _ _ _ _ _ _ _ (omega (arith, c13 .needed .ensures, c12 .if1 .left)) (c10 .write-grid .ensures)
+    (c .before .before .conclude .ensures)
 
 pub attempt-spec : {M : Type 1} → statement M
 attempt-spec =

@@ -50,13 +50,14 @@ same-length c = search needs
 
 returns-3 : tie.Need-returns-3
 returns-3 c =
-    let c6 = c .before .before .before .before .before .before in
+    let c4 = c .before .before .before .before in
+    let c6 = c4 .before .before in
     let c7 = c6 .before in
     let c9 = c7 .before .before in
     input-passed _ _ _ _ _
     (model-holds _ _ (answer-accepts _ _ _ (sym (ap modelReadNumbers (c7 .enum-told .given .1)) ∙ c9 .read .ensures))
     ∙ sym (c6 .read2 .ensures)
-    ∙ ap choiceReadNumbers (c .before .before .before .before .enum-told2 .given .1))
+    ∙ ap choiceReadNumbers (c4 .enum-told2 .given .1))
     (c .before .before .attempt .ensures)
 
 pub run-spec : {M : Type 1} → statement M

@@ -142,12 +142,13 @@ returns c =
 returns-2 : tie.Need-returns-2
 unfolding rule22
 returns-2 c =
-    let start = c .before .before .before .before .before .before .before .before .before .before .before .before in
+    let c4 = c .before .before .before .before in
+    let start = c4 .before .before .before .before .before .before .before .before in
     let x = start .args in
     let m = model (x .s .now) in
     let p = plan (x .r .now) in
     let tables = start .pre .0 .tabulated in
-    rw (c .before .before .before .before .enum-told2 .given .1)
+    rw (c4 .enum-told2 .given .1)
     (flagged (rule22 m p) (x .a .0) _ _ refl (c .flag2 .ensures)
     (count-test m p (x .a .0) _ _ (c .before .count-holds .ensures)
     (c .before .before .at .ensures ∙ tables .count-ticks (x .a .0) (start .pre .1))))

@@ -22,7 +22,13 @@ cast-result c = search needs
 
 returns-2 : tie.Need-returns-2
 unfolding activityRowOf
-returns-2 c = simp (← ap (λ (y : ActivityRow). y .«least_duration») (c .before .before .before .activity-row .ensures), le-leb _ _ (c .before .if1 .left), ← ap (λ (y : ActivityRow). y .«most_duration») (c .before .before .before .activity-row .ensures))
+returns-2 c =
+    let row = c .before .before .before .activity-row .ensures in
+    simp (
+      ← ap (λ (y : ActivityRow). y .«least_duration») row,
+      le-leb _ _ (c .before .if1 .left),
+      ← ap (λ (y : ActivityRow). y .«most_duration») row,
+    )
 
 pub count-holds-spec : {M : Type 1} → statement M
 count-holds-spec =

@@ -52,13 +52,14 @@ loop-less c = omega arith
 loop-again : tie.Need-loop-again Inv-loop μ-loop
 unfolding earlyFrom
 loop-again c =
-    let l = c .before .before .before .before .before .before .loop in
-    let x = c .before .before .before .before .before .before .before .args in (
+    let c4 = c .before .before .before .before in
+    let l = c4 .before .before .loop in
+    let x = c4 .before .before .before .args in (
       omega arith,
       rw (c .mark .ensures, l .inv .1)
           (mark-next (l .number) _ (c .before .too-early .result) (omega arith)
           (c .before .too-early .ensures
-          ∙ ap₂ (λ (t : Bool) (done : ℕ). not (t ⇒ leb done (x .start))) (c .before .before .before .before .has .ensures)
+          ∙ ap₂ (λ (t : Bool) (done : ℕ). not (t ⇒ leb done (x .start))) (c4 .has .ensures)
           (ap₂ _+_ (c .before .before .before .at .ensures) (c .before .before .at2 .ensures)))),
     )
 

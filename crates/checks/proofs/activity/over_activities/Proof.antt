@@ -48,7 +48,8 @@ refused-requires c κs = search needs
 
 returns : tie.Need-returns Inv-loop μ-loop
 returns c =
-    let c5 = c .before .before .before .before .before in
+    let c4 = c .before .before .before .before in
+    let c5 = c4 .before in
     let c6 = c5 .before in
     let c10 = c6 .before .before .before .before in
     let x = c10 .args in
@@ -61,7 +62,7 @@ returns c =
     ∙ sym (clear-stop (activityRule (x .rule) m p) (l .number) _ (l .inv .3)
     (omega (arith, activity-rows (x .rule) m p, l .inv .1, c5 .loop-test .taken))
     (row-stops (activityRule (x .rule) m p) (l .number) _ _ (activity-columns (x .rule) m p (l .inv .2 .tabulated .few))
-    (c .before .before .before .before .breaking .ensures)
+    (c4 .breaking .ensures)
     (c .before .before .before .lowest .ensures) (c .before .before .if1 .taken)))
 
 add-number : tie.Need-add-number Inv-loop μ-loop
@@ -72,9 +73,9 @@ loop-less c = omega arith
 
 loop-again : tie.Need-loop-again Inv-loop μ-loop
 loop-again c =
-    let c8 = c .before .before .before .before .before .before .before .before in
-    let x = c8 .args in
-    let l = c .before .before .before .before .loop in
+    let c4 = c .before .before .before .before in
+    let x = c4 .before .before .before .before .args in
+    let l = c4 .loop in
     let m = model (x .s .now) in
     let p = plan (x .r .now) in (
       omega arith,

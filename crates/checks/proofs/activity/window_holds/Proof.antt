@@ -59,7 +59,8 @@ has-requires c κs = search needs
 returns-3 : tie.Need-returns-3
 unfolding window spanOf sizesOf
 returns-3 c =
-    let c5 = c .before .before .before .before .before in
+    let c4 = c .before .before .before .before in
+    let c5 = c4 .before in
     let c6 = c5 .before in
     let c9 = c6 .before .before .before in
     let x = c9 .args in
@@ -71,7 +72,7 @@ returns-3 c =
       ← start,
       ← end,
       ← horizon,
-      lt-ltb _ _ (c .before .before .before .before .if1 .left),
+      lt-ltb _ _ (c4 .if1 .left),
       le-leb _ _ (c .before .before .before .if2 .left),
       ← c .before .before .word .ensures,
       sym (c .before .has .ensures) ∙ not-true _ (c .if3 .taken),
@@ -92,7 +93,8 @@ has-requires-2 c κs = search needs
 returns-4 : tie.Need-returns-4
 unfolding window spanOf sizesOf
 returns-4 c =
-    let c5 = c .before .before .before .before .before in
+    let c4 = c .before .before .before .before in
+    let c5 = c4 .before in
     let c6 = c5 .before in
     let c7 = c6 .before in
     let c8 = c7 .before in
@@ -110,7 +112,7 @@ returns-4 c =
       lt-ltb _ _ (c7 .if1 .left),
       le-leb _ _ (c6 .if2 .left),
       ← c5 .word .ensures,
-      sym (c .before .before .before .before .has .ensures) ∙ not-false _ (c .before .before .before .if3 .left),
+      sym (c4 .has .ensures) ∙ not-false _ (c .before .before .before .if3 .left),
       ← c .before .before .word2 .ensures,
       sym (c .before .has2 .ensures) ∙ not-true _ (c .if4 .taken),
     )
@@ -124,7 +126,8 @@ has-requires-3 c κs = search needs
 returns-5 : tie.Need-returns-5
 unfolding spanOf sizesOf
 returns-5 c =
-    let c5 = c .before .before .before .before .before in
+    let c4 = c .before .before .before .before in
+    let c5 = c4 .before in
     let c6 = c5 .before in
     let c7 = c6 .before in
     let c8 = c7 .before in
@@ -141,7 +144,7 @@ returns-5 c =
     (sym (ap₂ ltb start end) ∙ lt-ltb _ _ (c8 .if1 .left))
     (sym (ap₂ leb end horizon) ∙ le-leb _ _ (c7 .if2 .left))
     (ap (λ t. active p t (x .a .0)) (sym start) ∙ sym (ap (λ w. bit w (x .a .0)) (c6 .word .ensures)) ∙ sym (c5 .has .ensures)
-    ∙ not-false _ (c .before .before .before .before .if3 .left))
+    ∙ not-false _ (c4 .if3 .left))
     (ap (λ t. active p (t - 1) (x .a .0)) (sym end) ∙ sym (ap (λ w. bit w (x .a .0)) (c .before .before .before .word2 .ensures))
     ∙ sym (c .before .before .has2 .ensures) ∙ not-false _ (c .before .if4 .left))
     (c .has3 .ensures ∙ c13 .pre)

@@ -50,13 +50,13 @@ at-requires-2 c κs = omega arith
 
 let-go-requires : tie.Need-let-go-requires Inv-loop μ-loop
 let-go-requires c κs =
-    let c5 = c .before .before .before .before .before in
-    let c7 = c5 .before .before in
+    let c4 = c .before .before .before .before in
+    let c7 = c4 .before .before .before in
     let c8 = c7 .before in
-    let l = c5 .loop in
+    let l = c4 .before .loop in
     let x = c8 .args in
     let pre = c8 .pre in
-    let less = c .before .before .before .before .loop-test .taken in (
+    let less = c4 .loop-test .taken in (
       omega (arith, c .before .at .ensures, pre .1 .1 (l .number) less),
       omega (
         arith,
@@ -78,16 +78,18 @@ loop-less c = omega arith
 
 loop-again : tie.Need-loop-again Inv-loop μ-loop
 loop-again c =
-    let l = c .before .before .before .before .before .before .before .loop in
-    let pre = c .before .before .before .before .before .before .before .before .before .before .pre in
-    let x = c .before .before .before .before .before .before .before .before .before .before .args in (
+    let c4 = c .before .before .before .before in
+    let c6 = c4 .before .before in
+    let c10 = c6 .before .before .before .before in
+    let l = c6 .before .loop in
+    let pre = c10 .pre in
+    let x = c10 .args in (
       omega arith,
       c .larger .ensures
           ∙ ap₂ max (l .inv .1)
           (term-reads _ _ (l .number) _ (getD (x .done .now) (l .number) 0) _ _ _ _ _ (c .before .let-go .ensures)
-          (c .before .before .before .before .before .has .ensures) (c .before .before .before .before .has2 .ensures)
-          (c .before .before .before .at .ensures)
-          (c .before .before .at2 .ensures ∙ pre .1 .0 (l .number) (c .before .before .before .before .before .before .loop-test .taken)))
+          (c4 .before .has .ensures) (c4 .has2 .ensures) (c .before .before .before .at .ensures)
+          (c .before .before .at2 .ensures ∙ pre .1 .0 (l .number) (c6 .loop-test .taken)))
           ∙ sym (greatest-next (l .number) _),
     )
 

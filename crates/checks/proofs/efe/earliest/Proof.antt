@@ -26,11 +26,12 @@ larger-requires c κs = search needs
 returns : tie.Need-returns
 unfolding timing
 returns c =
-    let x = c .before .before .before .before .before .before .before .args in
+    let c4 = c .before .before .before .before in
+    let x = c4 .before .before .before .args in
     c .larger .ensures
     ∙ ap₂ max
     (ap (λ (y : Timing). y .release) (c .before .before .before .thread-row .ensures)
-    ∙ ap (λ j. plan (x .r .now) .release (j .0)) (c .before .before .before .before .thread-of .ensures))
+    ∙ ap (λ j. plan (x .r .now) .release (j .0)) (c4 .thread-of .ensures))
     (c .before .after .ensures)
 
 pub earliest-spec : {M : Type 1} → statement M

@@ -40,8 +40,9 @@ less-requires c κs = search needs
 
 after-requires : tie.Need-after-requires Inv-loop μ-loop
 after-requires c κs =
-    let l = c .before .before .before .before .loop in
-    let pre = c .before .before .before .before .before .before .before .pre in
+    let c4 = c .before .before .before .before in
+    let l = c4 .loop in
+    let pre = c4 .before .before .before .pre in
     (l .inv .2, (λ b h. pre .1 .1 b (omega (arith, h, l .inv .1)), λ b h. pre .1 .0 b (omega (arith, h, l .inv .1))))
 
 larger-requires : tie.Need-larger-requires Inv-loop μ-loop

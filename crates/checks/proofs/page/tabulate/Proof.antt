@@ -33,7 +33,8 @@ finishes-requires c κs =
 froms-requires : tie.Need-froms-requires
 unfolding columnOf
 froms-requires c κs =
-    let c8 = c .before .before .before .before .before .before .before .before in
+    let c7 = c .before .before .before .before .before .before .before in
+    let c8 = c7 .before in
     let start = c8 .before .before .before .before in
     let m = model (start .args .s .now) in
     let few = start .pre .activities .1 in
@@ -45,7 +46,7 @@ froms-requires c κs =
           ends b l,
           end-lt (start .args .r .now) (λ i _. c8 .before .before .shared-slice-known2 .given i .fits) b,
         ),
-        by-table m _ _ few (c .before .before .before .before .before .before .before .table2 .ensures),
+        by-table m _ _ few (c7 .table2 .ensures),
       ),
     )
 
@@ -53,13 +54,13 @@ returns : tie.Need-returns
 unfolding columnOf
 returns c =
     let c5 = c .before .before .before .before .before in
-    let c10 = c5 .before .before .before .before .before in
+    let c9 = c5 .before .before .before .before in
+    let c10 = c9 .before in
     let start = c10 .before .before .before in
     let m = model (start .args .s .now) in
     let p = plan (start .args .r .now) in
     let few = start .pre .activities .1 in
     let counts = count-table m p _ few (c10 .counts .ensures) in
-    let c9 = c5 .before .before .before .before in
     let ends = by-table m _ _ few (c9 .table .ensures) in
     record {
       few = few;

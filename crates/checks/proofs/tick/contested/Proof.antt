@@ -22,7 +22,9 @@ outranking-requires : tie.Need-outranking-requires
 outranking-requires c κs = search needs
 
 returns-2 : tie.Need-returns-2
-returns-2 c = simp (← c .before .before .ones .ensures, eq-eqb _ _ (c .before .if2 .taken)) (ap (bitAnd (c .before .before .before .before .args .waiting)) (c .outranking .ensures))
+returns-2 c =
+    let x = c .before .before .before .before .args in
+    simp (← c .before .before .ones .ensures, eq-eqb _ _ (c .before .if2 .taken)) (ap (bitAnd (x .waiting)) (c .outranking .ensures))
 
 returns-3 : tie.Need-returns-3
 returns-3 c = simp (← c .before .ones .ensures, ne-eqb _ _ (c .if2 .left))

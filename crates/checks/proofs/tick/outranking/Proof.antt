@@ -15,7 +15,8 @@ use Rattle.checks.proofs.tick.outranking.Tie as tie
 abbrev Inv-loop : tie.InvT-loop
 Inv-loop word masks all₀ rest₀ all rest =
     (rest < 2 ^ 32) × (all < 2 ^ 32)
-    × ((b : ℕ) → (bit all b || any 32 (λ a. bit rest a && bit (getD masks a 0) b)) ≡ (bit 0 b || any 32 (λ a. bit word a && bit (getD masks a 0) b)))
+    × ((b : ℕ) → (bit all b || any 32 (λ a. bit rest a && bit (getD masks a 0) b))
+    ≡ (bit 0 b || any 32 (λ a. bit word a && bit (getD masks a 0) b)))
 
 abbrev μ-loop : tie.MeasureT-loop
 μ-loop word masks all₀ rest₀ all rest = rest
@@ -47,18 +48,21 @@ without-requires c κs = search needs
 
 loop-less : tie.Need-loop-less Inv-loop μ-loop
 loop-less c =
-    let l = c .before .before .before .before .before .loop in
-    omega (arith, c .without .ensures, rest-less (l .rest) _ (l .inv .0) (c .before .before .before .before .loop-test .taken) (c .before .before .before .lowest .ensures))
+    let c3 = c .before .before .before in
+    let l = c3 .before .before .loop in
+    omega (arith, c .without .ensures, rest-less (l .rest) _ (l .inv .0) (c3 .before .loop-test .taken) (c3 .lowest .ensures))
 
 loop-again : tie.Need-loop-again Inv-loop μ-loop
 loop-again c =
-    let l = c .before .before .before .before .before .loop in
-    let x = c .before .before .before .before .before .before .args in (
+    let c3 = c .before .before .before in
+    let l = c3 .before .before .loop in
+    let x = c3 .before .before .before .args in (
       c .without .ok,
       c .before .joined .ok,
       λ b.
           rw (c .without .ensures, c .before .joined .ensures)
-          (join-next (l .rest) _ (l .inv .0) (c .before .before .before .before .loop-test .taken) (c .before .before .before .lowest .ensures) (l .all) _ (λ a. getD (x .masks .now) a 0) refl b
+          (join-next (l .rest) _ (l .inv .0) (c3 .before .loop-test .taken) (c3 .lowest .ensures) (l .all) _
+          (λ a. getD (x .masks .now) a 0) refl b
           ∙ l .inv .2 b),
     )
 

@@ -36,8 +36,9 @@ returns : tie.Need-returns
 unfolding sizesOf columnOf
 returns c =
     let c4 = c .before .before .before .before in
-    let tabulated = c4 .before .before .before .before .pre in
-    let x = c4 .before .before .before .before .args in
+    let c8 = c4 .before .before .before .before in
+    let tabulated = c8 .pre in
+    let x = c8 .args in
     let sizes = c4 .before .counts .ensures in
     strays-read (model (x .s .now)) (plan (x .r .now)) (c4 .table .result) (ends (x .tables .now)) _ _ _
     (ap (λ (y : Sizes). y .horizon) sizes) (ap (λ (y : Sizes). y .activities) sizes)

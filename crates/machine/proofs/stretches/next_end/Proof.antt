@@ -1,4 +1,5 @@
--- `machine::stretches::next_end` meets its contract: what the rest of the word has not owes something at every tick before `next`. Assumes nothing.
+-- `machine::stretches::next_end` meets its contract: what the rest of the word has not owes something at every tick before `next`.
+-- Assumes nothing.
 use native.Mathlib.Omega.{arith}
 use Rattle.bits.proofs.Apart.{lowest-lt, rest-less}
 use Rattle.machine.proofs.StretchLaws.{Ending, ending-start, ending-next, ending-end}
@@ -42,14 +43,17 @@ without-requires c κs = search needs
 
 loop-less : tie.Need-loop-less Inv-loop μ-loop
 loop-less c =
-    let l = c .before .before .before .before .before .before .loop in
-    omega (arith, c .without .ensures, rest-less (l .rest) _ (l .inv .fits) (c .before .before .before .before .before .loop-test .taken) (c .before .before .before .before .lowest .ensures))
+    let c4 = c .before .before .before .before in
+    let l = c4 .before .before .loop in
+    let less = rest-less (l .rest) _ (l .inv .fits) (c4 .before .loop-test .taken) (c4 .lowest .ensures) in
+    omega (arith, c .without .ensures, less)
 
 loop-again : tie.Need-loop-again Inv-loop μ-loop
 loop-again c =
-    let l = c .before .before .before .before .before .before .loop in
+    let c4 = c .before .before .before .before in
+    let l = c4 .before .before .loop in
     rw (c .without .ensures)
-    (ending-next _ (l .rest) _ _ _ _ (l .next) _ _ (l .inv) (c .before .before .before .before .before .loop-test .taken) (c .before .before .before .before .lowest .ensures)
+    (ending-next _ (l .rest) _ _ _ _ (l .next) _ _ (l .inv) (c4 .before .loop-test .taken) (c4 .lowest .ensures)
     (rw (c .without .ensures) at (c .without .ok)) (c .before .before .sum .ensures) (c .before .smaller .ensures))
 
 returns : tie.Need-returns Inv-loop μ-loop

@@ -46,40 +46,47 @@ lowered-requires c κs = search needs
 
 mul-owed : tie.Need-mul-owed Inv-loop μ-loop
 mul-owed c =
-    let l = c .before .before .before .before .before .loop in
-    omega (arith, l .inv .sized .0, lowest-lt (l .rest) _ (l .inv .fits) (c .before .before .before .before .loop-test .taken) (c .before .before .before .lowest .ensures))
+    let c3 = c .before .before .before in
+    let l = c3 .before .before .loop in
+    omega (arith, l .inv .sized .0, lowest-lt (l .rest) _ (l .inv .fits) (c3 .before .loop-test .taken) (c3 .lowest .ensures))
 
 element-write-owed : tie.Need-element-write-owed Inv-loop μ-loop
 element-write-owed c =
-    let l = c .before .before .before .before .before .loop in
-    omega (arith, l .inv .sized .0, lowest-lt (l .rest) _ (l .inv .fits) (c .before .before .before .before .loop-test .taken) (c .before .before .before .lowest .ensures))
+    let c3 = c .before .before .before in
+    let l = c3 .before .before .loop in
+    omega (arith, l .inv .sized .0, lowest-lt (l .rest) _ (l .inv .fits) (c3 .before .loop-test .taken) (c3 .lowest .ensures))
 
 end-after-requires : tie.Need-end-after-requires Inv-loop μ-loop
 end-after-requires c κs = c .before .before .before .before .before .before .pre .0
 
 mul-ends : tie.Need-mul-ends Inv-loop μ-loop
 mul-ends c =
-    let l = c .before .before .before .before .before .before .loop in
-    omega (arith, l .inv .sized .1, lowest-lt (l .rest) _ (l .inv .fits) (c .before .before .before .before .before .loop-test .taken) (c .before .before .before .before .lowest .ensures))
+    let c4 = c .before .before .before .before in
+    let l = c4 .before .before .loop in
+    omega (arith, l .inv .sized .1, lowest-lt (l .rest) _ (l .inv .fits) (c4 .before .loop-test .taken) (c4 .lowest .ensures))
 
 element-write-ends : tie.Need-element-write-ends Inv-loop μ-loop
 element-write-ends c =
-    let l = c .before .before .before .before .before .before .loop in
-    omega (arith, l .inv .sized .1, lowest-lt (l .rest) _ (l .inv .fits) (c .before .before .before .before .before .loop-test .taken) (c .before .before .before .before .lowest .ensures))
+    let c4 = c .before .before .before .before in
+    let l = c4 .before .before .loop in
+    omega (arith, l .inv .sized .1, lowest-lt (l .rest) _ (l .inv .fits) (c4 .before .loop-test .taken) (c4 .lowest .ensures))
 
 without-requires : tie.Need-without-requires Inv-loop μ-loop
 without-requires c κs = search needs
 
 loop-less : tie.Need-loop-less Inv-loop μ-loop
 loop-less c =
-    let l = c .before .before .before .before .before .before .before .loop in
-    omega (arith, c .without .ensures, rest-less (l .rest) _ (l .inv .fits) (c .before .before .before .before .before .before .loop-test .taken) (c .before .before .before .before .before .lowest .ensures))
+    let c5 = c .before .before .before .before .before in
+    let l = c5 .before .before .loop in
+    let less = rest-less (l .rest) _ (l .inv .fits) (c5 .before .loop-test .taken) (c5 .lowest .ensures) in
+    omega (arith, c .without .ensures, less)
 
 loop-again : tie.Need-loop-again Inv-loop μ-loop
 loop-again c =
-    let l = c .before .before .before .before .before .before .before .loop in
+    let c5 = c .before .before .before .before .before in
+    let l = c5 .before .before .loop in
     rw (c .without .ensures)
-    (stepping-next _ _ (l .rest) _ _ _ _ _ (l .owed) (l .ends) (l .inv) (c .before .before .before .before .before .before .loop-test .taken) (c .before .before .before .before .before .lowest .ensures)
+    (stepping-next _ _ (l .rest) _ _ _ _ _ (l .owed) (l .ends) (l .inv) (c5 .before .loop-test .taken) (c5 .lowest .ensures)
     (rw (c .without .ensures) at (c .without .ok)) (c .before .before .lowered .ensures) (c .before .end-after .ensures))
 
 returns : tie.Need-returns Inv-loop μ-loop

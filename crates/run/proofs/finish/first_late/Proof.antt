@@ -39,10 +39,12 @@ on-time-requires c κs = search needs
 returns : tie.Need-returns Inv-loop μ-loop
 unfolding inTimeFrom
 returns c =
-    let x = c .before .before .before .before .before .before .args in
-    let l = c .before .before .before .before .before .loop in
+    let c5 = c .before .before .before .before .before in
+    let x = c5 .before .args in
+    let l = c5 .loop in
     let p : ℕ → Bool = λ a. not (inTimeFrom (x .periods .now) (x .ends .now) a) in
-    found-here (x .n) p (l .a) (not (c .before .on-time .result)) (omega arith) (l .inv .1) (ap not (c .before .on-time .ensures)) (subst T (sym (c .if1 .taken)) tt)
+    found-here (x .n) p (l .a) (not (c .before .on-time .result)) (omega arith) (l .inv .1)
+    (ap not (c .before .on-time .ensures)) (subst T (sym (c .if1 .taken)) tt)
 
 add-a : tie.Need-add-a Inv-loop μ-loop
 add-a c = omega arith
@@ -53,10 +55,14 @@ loop-less c = omega arith
 loop-again : tie.Need-loop-again Inv-loop μ-loop
 unfolding inTimeFrom
 loop-again c =
-    let x = c .before .before .before .before .before .before .args in
-    let l = c .before .before .before .before .before .loop in
-    let p : ℕ → Bool = λ a. not (inTimeFrom (x .periods .now) (x .ends .now) a) in
-    (omega arith, clear-more p (l .a) (not (c .before .on-time .result)) (l .inv .1) (ap not (c .before .on-time .ensures)) (λ t. subst T (c .if1 .left) t))
+    let c5 = c .before .before .before .before .before in
+    let x = c5 .before .args in
+    let l = c5 .loop in
+    let p : ℕ → Bool = λ a. not (inTimeFrom (x .periods .now) (x .ends .now) a) in (
+      omega arith,
+      clear-more p (l .a) (not (c .before .on-time .result)) (l .inv .1) (ap not (c .before .on-time .ensures))
+          (λ t. subst T (c .if1 .left) t),
+    )
 
 returns-2 : tie.Need-returns-2 Inv-loop μ-loop
 returns-2 c = found-none _ _ (c .before .loop .a) (omega arith) (omega arith) (c .before .loop .inv .1)

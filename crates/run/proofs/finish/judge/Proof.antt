@@ -21,7 +21,9 @@ cast-n c = search needs
 
 first-owing-requires : tie.Need-first-owing-requires
 unfolding sizesOf
-first-owing-requires c κs = omega (arith, ap (λ (r : Sizes). r .activities) (c .before .counts .ensures), c .before .before .before .before .pre .formed .activities .1)
+first-owing-requires c κs =
+    let c4 = c .before .before .before .before in
+    omega (arith, ap (λ (r : Sizes). r .activities) (c .before .counts .ensures), c4 .pre .formed .activities .1)
 
 cast-refusal : tie.Need-cast-refusal
 cast-refusal c = search needs
@@ -64,7 +66,8 @@ returns-2 c =
     let c8 = c6 .before .before in
     let c11 = c8 .before .before .before in
     ap {B = Option Refusal} some (c .refusal2 .ensures)
-    ∙ sym (late-first _ _ _ _ (c11 .pre) _ (ap (λ (r : Sizes). r .activities) (c8 .counts .ensures)) _ _ _ (by-table _ _ _ (c11 .pre .formed .activities .1) (c4 .table .ensures))
+    ∙ sym (late-first _ _ _ _ (c11 .pre) _ (ap (λ (r : Sizes). r .activities) (c8 .counts .ensures)) _ _ _
+    (by-table _ _ _ (c11 .pre .formed .activities .1) (c4 .table .ensures))
     (c6 .first-owing .ensures) (c4 .before .if1 .left) (c2 .first-late .ensures) (c .before .if2 .taken))
 
 returns-3 : tie.Need-returns-3
@@ -74,7 +77,8 @@ returns-3 c =
     let c5 = c3 .before .before in
     let c7 = c5 .before .before in
     let c10 = c7 .before .before .before in
-    sym (none-late _ _ _ _ (c10 .pre) _ (ap (λ (r : Sizes). r .activities) (c7 .counts .ensures)) _ _ _ (by-table _ _ _ (c10 .pre .formed .activities .1) (c3 .table .ensures))
+    sym (none-late _ _ _ _ (c10 .pre) _ (ap (λ (r : Sizes). r .activities) (c7 .counts .ensures)) _ _ _
+    (by-table _ _ _ (c10 .pre .formed .activities .1) (c3 .table .ensures))
     (c5 .first-owing .ensures) (c3 .before .if1 .left) (c .before .first-late .ensures) (c .if2 .left))
 
 pub judge-spec : {M : Type 1} → statement M

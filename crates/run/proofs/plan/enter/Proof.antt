@@ -37,7 +37,8 @@ without-requires c κs = search needs
 loop-less : tie.Need-loop-less Inv-loop μ-loop
 loop-less c =
     let l = c .before .before .before .loop in
-    omega (arith, c .without .ensures, rest-less (l .rest) _ (l .inv .fits) (c .before .before .loop-test .taken) (c .before .lowest .ensures))
+    let less = rest-less (l .rest) _ (l .inv .fits) (c .before .before .loop-test .taken) (c .before .lowest .ensures) in
+    omega (arith, c .without .ensures, less)
 
 loop-again : tie.Need-loop-again Inv-loop μ-loop
 loop-again c =

@@ -91,23 +91,27 @@ wide-requires-7 c κs = search needs
 
 returns : tie.Need-returns
 unfolding activityRowOf
-returns c = rw (c .before .enum-told .given .1) (c .wide .ensures ∙ ap (λ (r : ActivityRow). r .delay) (c .before .before .before .activity-row .ensures))
+returns c =
+    rw (c .before .enum-told .given .1)
+    (c .wide .ensures ∙ ap (λ (r : ActivityRow). r .delay) (c .before .before .before .activity-row .ensures))
 
 returns-2 : tie.Need-returns-2
 unfolding activityRowOf
 returns-2 c =
-    let x = c .before .before .before .before .before .before .args in
+    let c3 = c .before .before .before in
+    let x = c3 .before .before .before .args in
     rw (c .before .enum-told2 .given .1)
     (c .among .ensures
-    ∙ ap (λ (r : ActivityRow). amongActivities (model (x .s .now)) (bit (r .«temporal_mask»))) (c .before .before .before .activity-row .ensures))
+    ∙ ap (λ (r : ActivityRow). amongActivities (model (x .s .now)) (bit (r .«temporal_mask»))) (c3 .activity-row .ensures))
 
 returns-3 : tie.Need-returns-3
 unfolding activityRowOf
 returns-3 c =
-    let x = c .before .before .before .before .before .before .args in
+    let c3 = c .before .before .before in
+    let x = c3 .before .before .before .args in
     rw (c .before .enum-told3 .given .1)
     (c .among2 .ensures
-    ∙ ap (λ (r : ActivityRow). amongActivities (model (x .s .now)) (bit (r .«data_mask»))) (c .before .before .before .activity-row .ensures))
+    ∙ ap (λ (r : ActivityRow). amongActivities (model (x .s .now)) (bit (r .«data_mask»))) (c3 .activity-row .ensures))
 
 returns-4 : tie.Need-returns-4
 unfolding activityRowOf threadRowOf

@@ -41,12 +41,13 @@ element-copy-out-counts c =
 add-counts : tie.Need-add-counts Inv-loop μ-loop
 add-counts c =
     let l = c .before .before .before .loop in
+    let c4 = c .before .before .before .before in
     let low = lowest-lt (l .rest) _ (l .inv .0) (c .before .before .loop-test .taken) (c .before .lowest .ensures) in
     omega (
       arith,
       l .inv .2 (c .before .lowest .result) low,
-      c .before .before .before .before .pre .1 (c .before .lowest .result),
-      at-most-one (bit (c .before .before .before .before .args .word) (c .before .lowest .result)),
+      c4 .pre .1 (c .before .lowest .result),
+      at-most-one (bit (c4 .args .word) (c .before .lowest .result)),
     )
 
 element-write-counts : tie.Need-element-write-counts Inv-loop μ-loop
@@ -59,17 +60,20 @@ without-requires c κs = search needs
 
 loop-less : tie.Need-loop-less Inv-loop μ-loop
 loop-less c =
-    let l = c .before .before .before .before .loop in
-    omega (arith, c .without .ensures, rest-less (l .rest) _ (l .inv .0) (c .before .before .before .loop-test .taken) (c .before .before .lowest .ensures))
+    let c3 = c .before .before .before in
+    let l = c3 .before .loop in
+    let less = rest-less (l .rest) _ (l .inv .0) (c3 .loop-test .taken) (c .before .before .lowest .ensures) in
+    omega (arith, c .without .ensures, less)
 
 loop-again : tie.Need-loop-again Inv-loop μ-loop
 loop-again c =
-    let l = c .before .before .before .before .loop in (
+    let c3 = c .before .before .before in
+    let l = c3 .before .loop in (
       c .without .ok,
       simp length-set (l .inv .1),
       λ i h.
           rw (c .without .ensures)
-          (tally-next (l .rest) _ (l .inv .0) (c .before .before .before .loop-test .taken) (c .before .before .lowest .ensures) (l .counts) (l .inv .1) i h
+          (tally-next (l .rest) _ (l .inv .0) (c3 .loop-test .taken) (c .before .before .lowest .ensures) (l .counts) (l .inv .1) i h
           ∙ l .inv .2 i h),
     )
 

@@ -32,8 +32,14 @@ loop-less c = omega arith
 
 loop-again : tie.Need-loop-again Inv-loop μ-loop
 loop-again c =
-    let l = c .before .before .before .loop in
-    (omega arith, c .larger .ensures ∙ ap₂ max (l .inv .1) (c .before .end-of .ensures) ∙ sym (greatest-next (l .a) (plan (c .before .before .before .before .before .args .r .now) .end)))
+    let c3 = c .before .before .before in
+    let l = c3 .loop in
+    let x = c3 .before .before .args in (
+      omega arith,
+      c .larger .ensures
+          ∙ ap₂ max (l .inv .1) (c .before .end-of .ensures)
+          ∙ sym (greatest-next (l .a) (plan (x .r .now) .end)),
+    )
 
 returns : tie.Need-returns Inv-loop μ-loop
 returns c =

@@ -16,13 +16,17 @@ abbrev μ-loop : tie.MeasureT-loop
 μ-loop r n first₀ j₀ first j = n - j
 
 returns : tie.Need-returns Inv-loop μ-loop
-returns c = sym (least-none (plan (c .before .before .args .r .now) .release)) ∙ ap (λ k. least k (plan (c .before .before .args .r .now) .release)) (sym (c .if1 .taken))
+returns c =
+    let p = plan (c .before .before .args .r .now) in
+    sym (least-none (p .release)) ∙ ap (λ k. least k (p .release)) (sym (c .if1 .taken))
 
 release-of-requires : tie.Need-release-of-requires Inv-loop μ-loop
 release-of-requires c κs = search needs
 
 loop-holds : tie.Need-loop-holds Inv-loop μ-loop
-loop-holds c = (omega arith, omega arith, c .release-of .ensures ∙ sym (least-start (plan (c .before .before .before .args .r .now) .release)))
+loop-holds c =
+    let x = c .before .before .before .args in
+    (omega arith, omega arith, c .release-of .ensures ∙ sym (least-start (plan (x .r .now) .release)))
 
 release-of-requires-2 : tie.Need-release-of-requires-2 Inv-loop μ-loop
 release-of-requires-2 c κs = search needs
@@ -38,10 +42,14 @@ loop-less c = omega arith
 
 loop-again : tie.Need-loop-again Inv-loop μ-loop
 loop-again c =
-    let l = c .before .before .before .loop in (
+    let c3 = c .before .before .before in
+    let l = c3 .loop in
+    let x = c3 .before .before .before .before .args in (
       omega arith,
       omega arith,
-      c .smaller .ensures ∙ ap₂ min (l .inv .2) (c .before .release-of2 .ensures) ∙ sym (least-next (l .j) (plan (c .before .before .before .before .before .before .before .args .r .now) .release) (l .inv .0)),
+      c .smaller .ensures
+          ∙ ap₂ min (l .inv .2) (c .before .release-of2 .ensures)
+          ∙ sym (least-next (l .j) (plan (x .r .now) .release) (l .inv .0)),
     )
 
 returns-2 : tie.Need-returns-2 Inv-loop μ-loop
