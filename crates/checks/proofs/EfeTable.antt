@@ -1,6 +1,6 @@
 -- efe and the ticks from which activities can wait, as the table loops make them.
 -- Assumes nothing.
-use Prim.Native.Nat.{ℕ, zero, suc, _+_, _-_, _≤_, _<_, max}
+use Prim.Native.Nat.{ℕ, zero, suc, _+_, _*_, _≤_, _<_, max}
 use native.Mathlib.Decide.{decLt, ℕ-discrete}
 use native.Mathlib.Omega.{arith}
 use mathlib.Core.Bool.{Bool, true, false, cond}
@@ -10,12 +10,16 @@ use lib.Dec.{T}
 use lib.ListN.{length, getD, set}
 use lib.Seq.{getD-set-same, getD-set-other, set-out}
 use Rattle.schedule.specs.Bounded.{bit, greatest}
-use Rattle.schedule.specs.Model.{Model, temporally, byData, Ordered}
-use Rattle.schedule.specs.Plan.{Plan, active}
+use Rattle.schedule.specs.Fields.{Bytes}
+use Rattle.schedule.specs.Model.{Model, model, temporally, byData, Ordered}
+use Rattle.schedule.specs.Plan.{Plan, plan, active}
 use Rattle.schedule.specs.Checks.{countOf, efe, efeFrom}
 use Rattle.laws.proofs.Counting.{count-le}
 use Rattle.laws.proofs.Sums.{greatest-ext, greatest-bound}
 use Rattle.laws.proofs.EfeLaws.{efe-equation}
+use Rattle.laws.proofs.Ranges.{delay-lt, release-lt, horizon-lt}
+use Rattle.tables.specs.Columns.{TableOf}
+use Rattle.tables.proofs.TableLaws.{Filled}
 use Rattle.checks.specs.Tables.{after, waitsFrom, finishOf}
 
 -- one predecessor's term, and the two that the paper writes
@@ -123,6 +127,28 @@ module _ (m : Model) (p : Plan) (ordered : Ordered m) (short : (b : ℕ) → m .
         count-lt m p a brief,
         after-bound m n (λ b. getD l b 0) a x (λ b _. h b) short,
       )
+
+-- what a finish is made of has two bytes
+pub record Brief (m : Model) (p : Plan) : Type 0 where
+  pub delays : (b : ℕ) → m .delay b < 65536
+  pub releases : (j : ℕ) → p .release j < 65536
+  pub ticks : m .horizon < 65536
+
+pub bytes-brief : (s r : List ℕ) → Bytes s → Bytes r → Brief (model s) (plan r)
+bytes-brief s r hs hr = record { delays = delay-lt s hs; releases = release-lt r hr; ticks = horizon-lt s hs }
+
+-- the entry that the loop adds is right, and below the next bound
+pub entry-next : (m : Model) (p : Plan) → Ordered m → Brief m p → (counted : List ℕ) → TableOf m counted (countOf m p)
+    → (l : List ℕ) (a e k n : ℕ) → n ≡ m .activities → a < n
+    → Filled a (finishOf m p) l → ((i : ℕ) → getD l i 0 ≤ 131072 * a)
+    → e ≡ max (p .release (m .thread a)) (after m n (λ b. getD l b 0) a) → k ≡ getD counted a 0
+    → (e + k ≡ finishOf m p a) × (e + k < 131072 * (a + 1))
+entry-next m p o b counted h l a e k n q la f small x y =
+    let here : a < m .activities = omega arith in
+    let count : k ≡ countOf m p a = y ∙ h a here in (
+      finish-next m p o (b .delays) (b .releases) (b .ticks) l a e k n q here (f .filled) x count,
+      omega (arith, finish-bound m p o (b .delays) (b .releases) (b .ticks) l a e k n (131072 * a) small x count),
+    )
 
 -- entries below a bound stay so
 pub set-bound : (l : List ℕ) (n v x y : ℕ) → ((i : ℕ) → getD l i 0 ≤ x) → x ≤ y → v ≤ y → (i : ℕ) → getD (set l n v) i 0 ≤ y
