@@ -1,6 +1,6 @@
 -- What the code of rules 21 to 27 answers at an activity is the mask of the rule's broken places there.
 -- Assumes nothing.
-use Prim.Native.Nat.{ℕ, _+_, _-_, _≤_, _<_}
+use Prim.Native.Nat.{ℕ, _+_, _-_, _≤_}
 use native.Mathlib.Nat.{add-zero}
 use native.Mathlib.Omega.{arith}
 use mathlib.Core.Bool.{Bool, true, _&&_, not, cond, Bool·not-not}

@@ -9,7 +9,7 @@ use Rattle.schedule.specs.Rule
 use Rattle.schedule.specs.Rule.{Rule, firstBreak, AllHold}
 use Rattle.schedule.specs.Model.{model, modelForm}
 use Rattle.schedule.specs.Plan.{plan, planForm}
-use Rattle.schedule.specs.Answers.{accepted, refused, answer, figures, plainChecks, strictChecks}
+use Rattle.schedule.specs.Answers.{refused, answer, figures, plainChecks, strictChecks}
 use Rattle.schedule.specs.Numbers.{refusalNumbers}
 use Rattle.schedule.specs.declared.Refusal.{Refusal}
 use Rattle.laws.proofs.FirstBreak.{none-iff, append-none, append-some}

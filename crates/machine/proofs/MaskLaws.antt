@@ -26,7 +26,7 @@ use Rattle.bits.proofs.WordLaws.{bit-and, bit-not, bit-zero, zero-bits}
 use Rattle.bits.proofs.Apart.{lowest-lt, lowest-set, gone, kept, still-within, none-taken}
 use Rattle.bits.specs.WithBit.{withoutBit}
 use Rattle.machine.specs.Masks.{covered, endedFrom, endedMask, readyFrom, selectedFrom, readyMask, tickWord}
-use Rattle.machine.specs.Masks.{delays, befores, Tabled, Keeps, Stepped}
+use Rattle.machine.specs.Masks.{delays, Tabled, Keeps, Stepped}
 use Rattle.tables.specs.Columns.{TableOf, amongActivities}
 use Rattle.tables.proofs.TableLaws.{among-lt, bit-among, among-all}
 

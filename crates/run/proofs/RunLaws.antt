@@ -1,9 +1,9 @@
 -- What the run answers and leaves: rules 42 and 43 from the tables, and the buffer from its pieces.
 -- Assumes nothing.
-use Prim.Native.Nat.{ℕ, zero, suc, _+_, _-_, _*_, _≤_, _<_}
+use Prim.Native.Nat.{ℕ, zero, suc, _+_, _-_, _≤_, _<_}
 use native.Mathlib.Nat.{lt-of-lt-of-le}
 use native.Mathlib.Omega.{arith}
-use mathlib.Core.Bool.{Bool, true, false, _&&_, not, cond}
+use mathlib.Core.Bool.{Bool, not, cond}
 use mathlib.Core.List.{List, [], _++_, append-assoc}
 use mathlib.Core.Option.{Option, some, none}
 use mathlib.Core.Path.{_≡_, refl, sym, subst, ap, ap₂, _∙_}
@@ -23,7 +23,7 @@ use Rattle.schedule.specs.Choice.{Choice, choice, choiceTiming, choiceForm}
 use Rattle.schedule.specs.Plan.{plan, planBytes, pairRows, tickAt, wordIn}
 use Rattle.schedule.specs.Machine.{machineWord, machineStart, machineEnd, machineOwes}
 use Rattle.schedule.specs.Timing.{onTime, inTime, deadlineRule}
-use Rattle.schedule.specs.Answers.{Answer, accepted, refused, answer, figures, Written, machinePlan, owedRule, runRules}
+use Rattle.schedule.specs.Answers.{Answer, accepted, refused, figures, Written, machinePlan, owedRule, runRules}
 use Rattle.schedule.specs.Answers.{lengthNeeded, written, runChecks, Outcome, from-run, succeeded, concluded, outcome}
 use Rattle.schedule.specs.Answers.{answerOf, runAnswer, bufferAfter, runBuffer}
 use Rattle.laws.proofs.Tests.{T-not, T-not-not}

@@ -1,10 +1,10 @@
 -- The ranking from a table of priorities is the model's.
 -- Assumes nothing.
 use Prim.Native.Nat.{ℕ}
-use mathlib.Core.Bool.{Bool, _&&_, _||_}
+use mathlib.Core.Bool.{_&&_, _||_}
 use mathlib.Core.Path.{_≡_, refl, ap₂}
 use lib.Dec.{eqb, ltb}
-use Rattle.schedule.specs.Model.{Model, priorityOf}
+use Rattle.schedule.specs.Model.{Model}
 use Rattle.schedule.specs.Machine.{before}
 use Rattle.tables.specs.declared.ranking.Order.{Order}
 use Rattle.tables.specs.Columns.{byActivity, amongActivities}

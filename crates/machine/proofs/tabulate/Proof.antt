@@ -1,11 +1,8 @@
 -- `machine::tabulate` meets its contract: each table is a column, or the machine's ranking.
 -- Assumes nothing.
-use Prim.Native.Nat.{ℕ}
-use mathlib.Core.Path.{ap, _∙_}
-use Rattle.schedule.specs.Model.{Model, model, priorityOf}
-use Rattle.schedule.specs.Machine.{before}
-use Rattle.tables.specs.Columns.{amongActivities, columnOf}
-use Rattle.tables.specs.Ranking.{rankingOf}
+use mathlib.Core.Path.{_∙_}
+use Rattle.schedule.specs.Model.{model}
+use Rattle.tables.specs.Columns.{columnOf}
 use Rattle.tables.proofs.TableLaws.{by-table}
 use Rattle.tables.proofs.RankLaws.{ranking-before}
 use borrow.Author.Needs.{needs}

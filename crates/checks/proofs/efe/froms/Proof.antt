@@ -1,7 +1,7 @@
 -- `checks::efe::froms` meets its contract: the table is right at the activities passed.
 -- Assumes nothing.
 use native.Mathlib.Omega.{arith}
-use Prim.Native.Nat.{ℕ, _≤_, _-_, max}
+use Prim.Native.Nat.{_≤_, _-_, max}
 use mathlib.Core.Path.{_≡_, ap, ap₂, _∙_}
 use lib.ListN.{getD}
 use Rattle.schedule.specs.Model.{model}
