@@ -16,6 +16,7 @@ use Rattle.schedule.specs.Numbers.{ruleNumber}
 use Rattle.schedule.specs.Timing.{deadlineRule}
 use Rattle.schedule.specs.Checks.{countOf, efe, window, rule21, rule22, rule23, rule24, rule25, rule26, rule27}
 use Rattle.laws.proofs.Words.{wordOf-ext}
+use Rattle.laws.proofs.Opened.{check-rules}
 use Rattle.laws.proofs.Named.{rule-number}
 use Rattle.tables.specs.Columns.{TableOf}
 use Rattle.checks.specs.declared.activity.ActivityRule.{ActivityRule}
@@ -54,7 +55,7 @@ data-mask m p ends none a preceding start n e s k h z =
 
 -- a rule of activities is tried at m activities and at no more than 32 columns
 pub activity-rows : (rule : ActivityRule) (m : Model) (p : Plan) → activityRule rule m p .rows ≡ m .activities
-unfolding rule21 rule22 rule23 rule24 rule25 rule26 rule27 deadlineRule
+unfolding check-rules
 activity-rows ActivityRule.Window m p = refl
 activity-rows ActivityRule.Count m p = refl
 activity-rows ActivityRule.Deadline m p = refl
@@ -65,7 +66,7 @@ activity-rows ActivityRule.Eligible m p = refl
 
 pub activity-columns : (rule : ActivityRule) (m : Model) (p : Plan) → m .activities ≤ 32
     → activityRule rule m p .columns ≤ 32
-unfolding rule21 rule22 rule23 rule24 rule25 rule26 rule27 deadlineRule
+unfolding check-rules
 activity-columns ActivityRule.Window m p h = omega arith
 activity-columns ActivityRule.Count m p h = omega arith
 activity-columns ActivityRule.Deadline m p h = omega arith

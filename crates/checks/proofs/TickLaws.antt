@@ -19,6 +19,7 @@ use Rattle.schedule.specs.Numbers.{ruleNumber}
 use Rattle.laws.proofs.Tests.{T-all}
 use Rattle.laws.proofs.Counting.{T-ext, T-false}
 use Rattle.laws.proofs.Words.{bit-high, bit-wordOf, word-ext, wordOf-ext, wordOf-lt}
+use Rattle.laws.proofs.Opened.{check-rules}
 use Rattle.laws.proofs.Named.{rule-number}
 use Rattle.bits.proofs.WordLaws.{bit-zero}
 use Rattle.checks.specs.declared.tick.TickRule.{TickRule}
@@ -126,14 +127,14 @@ tick-mask TickRule.Tie m p tables masks h r t =
 
 -- a rule of ticks is tried at H ticks and at no more than 32 columns
 pub tick-rows : (rule : TickRule) (m : Model) (p : Plan) → tickRule rule m p .rows ≡ m .horizon
-unfolding rule28 rule29 rule30 rule31
+unfolding check-rules
 tick-rows TickRule.Cores m p = refl
 tick-rows TickRule.Preemption m p = refl
 tick-rows TickRule.Idle m p = refl
 tick-rows TickRule.Tie m p = refl
 
 pub tick-columns : (rule : TickRule) (m : Model) (p : Plan) → m .activities ≤ 32 → tickRule rule m p .columns ≤ 32
-unfolding rule28 rule29 rule30 rule31
+unfolding check-rules
 tick-columns TickRule.Cores m p h = omega arith
 tick-columns TickRule.Preemption m p h = h
 tick-columns TickRule.Idle m p h = h

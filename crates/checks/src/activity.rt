@@ -91,7 +91,7 @@ fn deadline_holds(s: &[u8], r: &[u8], a: Activity) -> bool
 {
     let row = records::plan::thread_row(r, thread_of(s, a));
     let span = records::plan::activity_row(r, a);
-    on_time(row.period as u32, span.end as u32)
+    on_time(row.release as u32, row.period as u32, span.end as u32)
 }
 
 // Whether a start comes before a predecessor's end and delay.

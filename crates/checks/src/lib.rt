@@ -62,7 +62,7 @@ fn activity_rules(s: &[u8], r: &[u8], outside: u32, tables: &Tables) -> Pass
     Pass::Holds
 }
 
-// Two rules of ticks, in the same way.
+// Two rules of ticks, each tried at every tick before the next.
 fn tick_rules(order: [TickRule; 2], s: &[u8], r: &[u8], tables: &Tables) -> Pass
     requires { ⌜ length order ≡ 2 ⌝ }
     requires { ⌜ Tabulated (model (now s)) (plan (now r)) (now tables) ⌝ }

@@ -1,4 +1,4 @@
-// What the rules need of a model and a plan by activity: tables of 32 numbers, each made once.
+// What the rules of activities and of ticks both look up of a model and a plan, by activity: tables of 32 numbers.
 use crate::efe;
 use records::model::Activity;
 use records::model::Thread;
@@ -47,7 +47,7 @@ pub(crate) fn tabulate(s: &[u8], r: &[u8]) -> Tables
     ensures { λ x. ⌜ Tabulated (model (now (s .entry))) (plan (now (r .entry))) x ⌝ }
 {
     let counts = tables::counts::counts(s, r);
-    let ends = tables::columns::table(Column::End, s, r);
+    let ends = tables::columns::table(Column::PlanEnd, s, r);
     let delays = tables::columns::table(Column::Delay, s, r);
     let finishes = efe::finishes(s, r, &counts, &delays);
     let froms = efe::froms(s, &finishes, &counts, &ends, &delays);

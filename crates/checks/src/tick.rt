@@ -32,8 +32,8 @@ pub(crate) enum TickRule {
     Tie,
 }
 
-// For each activity those that a rule compares it with while they wait: 29 by a higher priority, 31 by a lower number at one
-// priority. 28 and 30 compare none.
+// For each activity those that must not wait while it is active: by 29 those of a higher priority, by 31 those of its own
+// priority with a lower number. 28 and 30 compare nobody.
 fn outranked_by(rule: TickRule, s: &[u8]) -> [u32; 32]
     ensures { λ r. ⌜ Ranked rule (model (now (s .entry))) r ⌝ }
 {

@@ -106,7 +106,7 @@ pub(crate) fn strays(s: &[u8], r: &[u8], tables: &Tables) -> u32
         → bit x a ≡ not (noneOutside (model (now (s .entry))) (plan (now (r .entry))) a)) ⌝ }
 {
     let sizes = records::model::counts(s);
-    let starts = tables::columns::table(Column::Start, s, r);
+    let starts = tables::columns::table(Column::PlanStart, s, r);
     outside(
         r,
         sizes.horizon,

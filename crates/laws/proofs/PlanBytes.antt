@@ -3,12 +3,12 @@
 use Prim.Native.Nat.{ℕ, _+_, _*_, _^_, _<_}
 use native.Mathlib.Omega.{arith}
 use mathlib.Core.List.{List, _++_}
-use mathlib.Core.Path.{_≡_}
+use mathlib.Core.Path.{_≡_, ap, _∙_}
 use lib.ListN.{length, length-append}
 use Rattle.schedule.specs.Bounded.{chain}
 use Rattle.schedule.specs.Fields.{field, bytes, pair, pairRow, Bytes}
-use Rattle.schedule.specs.Plan.{Plan, plan, planBytes, planLength, planThreadRow, gridAt, tickAt, pairRows}
-use Rattle.laws.proofs.FieldLaws.{length-bytes, bytes-bytes, length-chain, bytes-append, bytes-chain}
+use Rattle.schedule.specs.Plan.{Plan, plan, planBytes, planLength, planThreadRow, gridAt, tickAt, wordIn, planGrid, pairRows}
+use Rattle.laws.proofs.FieldLaws.{length-bytes, bytes-bytes, length-chain, bytes-append, bytes-chain, field-drop}
 use Rattle.laws.proofs.Parts.{Stands, stands-whole, stands-first, stands-second}
 use Rattle.laws.proofs.Parts.{stands-field, stands-next, stands-row}
 
@@ -156,3 +156,14 @@ reads-from p fits r stands =
 
 pub reads-back : (p : Plan) → Fits p → ReadsBack p
 reads-back p fits = reads-from p fits (planBytes p) (stands-whole (planBytes p))
+
+-- ---- a plan's grid by itself
+
+-- the words of a plan are those of its grid
+pub word-behind : (r : List ℕ) (t : ℕ) → wordIn (planGrid r) t ≡ plan r .word t
+unfolding plan
+word-behind r t = field-drop (gridAt (field r 5 1) (field r 6 1)) r (tickAt t) 4
+
+-- a word that was read there
+pub word-read : (r grid : List ℕ) (t word : ℕ) → grid ≡ planGrid r → word ≡ wordIn grid t → word ≡ plan r .word t
+word-read r grid t word e w = w ∙ ap (λ (g : List ℕ). wordIn g t) e ∙ word-behind r t

@@ -23,7 +23,7 @@ fn tabulate(s: &[u8], q: &[u8]) -> Tables
     requires { ⌜ model (now s) .activities ≤ 32 ⌝ }
     ensures { λ r. ⌜ Tabled (model (now (s .entry))) (choice (now (q .entry)) .release) r ⌝ }
 {
-    let releases = tables::columns::table(Column::Release, s, q);
+    let releases = tables::columns::table(Column::ChosenRelease, s, q);
     let delays = tables::columns::table(Column::Delay, s, q);
     let temporal = tables::columns::table(Column::Temporal, s, q);
     let by_data = tables::columns::table(Column::ByData, s, q);
@@ -42,7 +42,7 @@ fn play_ticks(s: &[u8], q: &[u8], tables: &Tables, grid: &mut [u8]) -> Played
     let n = sizes.activities as usize;
     let cores = sizes.cores as u32;
     let horizon = sizes.horizon as usize;
-    let mut owed = tables::columns::table(Column::Duration, s, q);
+    let mut owed = tables::columns::table(Column::ChosenDuration, s, q);
     let mut ends = [0u32; 32];
     let mut kept = ticks::unknown();
     let mut t = 0;
@@ -56,7 +56,8 @@ fn play_ticks(s: &[u8], q: &[u8], tables: &Tables, grid: &mut [u8]) -> Played
 }
 
 // Plays the machine of a model and a choice of any bytes, into a grid of any length: an empty one where no page is wanted. A
-// model of more activities than a word has bits is not played; none that meets its form rules has so many.
+// model of more activities than a word has bits is not played, and both tables are 0 then, as if nothing were owed; none that
+// meets its form rules has so many.
 pub fn play(s: &[u8], q: &[u8], grid: &mut [u8]) -> Played
     ensures { λ r. ⌜ (r .owed ≡ playedOwed (model (now (s .entry))) (choice (now (q .entry))))
         × (r .ends ≡ playedEnds (model (now (s .entry))) (choice (now (q .entry))))

@@ -94,7 +94,7 @@ secondNames = record {
 
 -- rules 8 to 11 of the bytes r of a choice or a plan beside the bytes s of a model
 abbrev pub secondHead : List ℕ → List ℕ → ℕ → Bool → ℕ → Option Rule.Refusal
-secondHead s r least further wanted = headBreak r secondNames least (further && countsHold s r) wanted
+secondHead s r least same-horizon wanted = headBreak r secondNames least (same-horizon && countsHold s r) wanted
 
 -- ---- the three records
 

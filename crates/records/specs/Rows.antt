@@ -5,7 +5,7 @@ use mathlib.Core.Bool.{Bool, _&&_, not}
 use mathlib.Core.List.{List}
 use lib.Dec.{eqb, leb, ltb}
 use Rattle.schedule.specs.Bounded.{all, bit, _⇒_}
-use Rattle.schedule.specs.Model.{Model, within}
+use Rattle.schedule.specs.Model.{Model, model, within}
 use Rattle.schedule.specs.Fields.{field, pairRow}
 use Rattle.schedule.specs.Rule.{Rule}
 use Rattle.schedule.specs.Choice.{rangeRule}
@@ -90,11 +90,11 @@ masksHold a row = all 32 (λ b. leb a b ⇒ (not (bit (row .«temporal_mask») b
 
 -- rule 10, of the bytes of a model and of a second record: n and m
 unfoldable pub countsHold : List ℕ → List ℕ → Bool
-countsHold s r = eqb (field r 5 1) (field s 6 1) && eqb (field r 6 1) (field s 7 1)
+countsHold s r = eqb (field r 5 1) (model s .threads) && eqb (field r 6 1) (model s .activities)
 
 -- and a plan's H
 unfoldable pub horizonHolds : List ℕ → List ℕ → Bool
-horizonHolds s r = eqb (field r 7 2) (field s 8 2)
+horizonHolds s r = eqb (field r 7 2) (model s .horizon)
 
 -- rule 12, of a thread's release and period beside its row in the model
 unfoldable pub timingHolds : ThreadRow → Timing → Bool

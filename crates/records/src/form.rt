@@ -1,6 +1,7 @@
 // What the rules of the three records share: a refusal's place, the four rules that come first, and the tests of length,
 // version, range and high bits.
 use crate::Pass;
+use crate::model;
 use schedule::FormRefusal;
 use schedule::Place;
 use schedule::Refusal;
@@ -46,17 +47,18 @@ fn formula_holds(s: &[u8], wanted: u32) -> bool
     fields::be32(s, 0) == wanted
 }
 
-// 10 "its n or m, or a plan's H, differs from the model's", where what is asked further than n and m is known.
-fn counts_hold(s: &[u8], r: &[u8], further: bool) -> bool
-    ensures { λ x. ⌜ x ≡ (further && countsHold (now (s .entry)) (now (r .entry))) ⌝ }
+// 10 "its n or m, or a plan's H, differs from the model's", where it is known whether H is the model's.
+fn counts_hold(s: &[u8], r: &[u8], same_horizon: bool) -> bool
+    ensures { λ x. ⌜ x ≡ («same_horizon» && countsHold (now (s .entry)) (now (r .entry))) ⌝ }
 {
-    if !further {
+    let sizes = model::counts(s);
+    if !same_horizon {
         return false;
     }
-    if fields::byte(r, 5) != fields::byte(s, 6) {
+    if fields::byte(r, 5) != sizes.threads {
         return false;
     }
-    fields::byte(r, 6) == fields::byte(s, 7)
+    fields::byte(r, 6) == sizes.activities
 }
 
 // low ≤ x ≤ high
@@ -115,9 +117,9 @@ pub(crate) fn head(s: &[u8], names: Names, least: u8, counts: bool, wanted: u32)
 }
 
 // Rules 8 to 11 of a choice or a plan beside a model. Its thread rows begin at a position, behind the bytes that it has at
-// least; rule 10 may ask further than n and m.
-pub(crate) fn second_head(s: &[u8], r: &[u8], first: u8, further: bool, wanted: u32) -> Pass
-    ensures { λ x. ⌜ passNumbers x ≡ secondHead (now (s .entry)) (now (r .entry)) first further wanted ⌝ }
+// least; a choice has no horizon that could differ from the model's.
+pub(crate) fn second_head(s: &[u8], r: &[u8], first: u8, same_horizon: bool, wanted: u32) -> Pass
+    ensures { λ x. ⌜ passNumbers x ≡ secondHead (now (s .entry)) (now (r .entry)) first «same_horizon» wanted ⌝ }
 {
     let names = Names {
         size: FormRefusal::SecondSize,
@@ -125,5 +127,5 @@ pub(crate) fn second_head(s: &[u8], r: &[u8], first: u8, further: bool, wanted: 
         counts: FormRefusal::SecondCounts,
         formula: FormRefusal::SecondFormula,
     };
-    head(r, names, first, counts_hold(s, r, further), wanted)
+    head(r, names, first, counts_hold(s, r, same_horizon), wanted)
 }

@@ -10,7 +10,7 @@ pub mod plan;
 mod rows;
 mod timings;
 
-// What a rule answers that was tried over all its rows: "Each number is tried over all its rows before the next".
+// What one rule, or several in their order, answer: "Each number is tried over all its rows before the next".
 pub enum Pass {
     Holds,
     Refused(Refusal),

@@ -12,7 +12,7 @@ use schedule::Refusal;
 ghost use mathlib.Core.Path.{_≡_};
 ghost use Rattle.schedule.specs.Rule.{break, firstBreak};
 ghost use Rattle.schedule.specs.Answers.{answer};
-ghost use Rattle.schedule.specs.Model.{model, modelForm, modelLength};
+ghost use Rattle.schedule.specs.Model.{model, modelForm, modelLength, threadRow, activityRow};
 ghost use Rattle.records.specs.Rows.{sizesOf, threadRowOf, activityRowOf};
 ghost use Rattle.records.specs.Rows.{limitsHold, threadHolds, activityHolds, masksHold, timingHolds};
 ghost use Rattle.records.specs.Reads.{rowAnswer, rowReadNumbers, passNumbers, modelReadNumbers};
@@ -72,12 +72,26 @@ pub fn counts(s: &[u8]) -> Sizes
     }
 }
 
+// Where thread row j begins.
+fn thread_at(j: u8) -> usize
+    ensures { λ r. ⌜ r ≡ threadRow j ⌝ }
+{
+    10 + 10 * (j as usize)
+}
+
+// Where activity row a begins, behind the rows of that many threads.
+fn activity_at(threads: u8, a: u8) -> usize
+    ensures { λ r. ⌜ r ≡ activityRow threads a ⌝ }
+{
+    thread_at(threads) + 15 * (a as usize)
+}
+
 // Thread row j, of any bytes.
 pub fn thread_row(s: &[u8], j: Thread) -> ThreadRow
     ensures { λ r. ⌜ r ≡ threadRowOf (model (now (s .entry))) (j .0) ⌝ }
 {
     let number = j.0;
-    let at = 10 + 10 * (number as usize);
+    let at = thread_at(number);
     ThreadRow {
         least_period: fields::be16(s, at),
         most_period: fields::be16(s, at + 2),
@@ -87,13 +101,13 @@ pub fn thread_row(s: &[u8], j: Thread) -> ThreadRow
     }
 }
 
-// Activity row a, of any bytes; the rows stand behind those of the threads.
+// Activity row a, of any bytes.
 pub fn activity_row(s: &[u8], a: Activity) -> ActivityRow
     ensures { λ r. ⌜ r ≡ activityRowOf (model (now (s .entry))) (a .0) ⌝ }
 {
     let number = a.0;
     let threads = fields::byte(s, 6);
-    let at = 10 + 10 * (threads as usize) + 15 * (number as usize);
+    let at = activity_at(threads, number);
     let owner = fields::byte(s, at);
     ActivityRow {
         thread: Thread(owner),
@@ -123,11 +137,11 @@ fn limits_hold(x: Sizes) -> bool
     form::within(1, 4096, x.horizon)
 }
 
-// "Length 10 + 10n + 15m"
+// "Length 10 + 10n + 15m": where one more activity row would begin.
 fn formula(x: Sizes) -> u32
     ensures { λ r. ⌜ r ≡ modelLength (x .threads) (x .activities) ⌝ }
 {
-    10 + 10 * (x.threads as u32) + 15 * (x.activities as u32)
+    activity_at(x.threads, x.activities) as u32
 }
 
 // ---- rules 5 to 7, over the rows

@@ -14,11 +14,11 @@ use schedule::FormRefusal;
 use schedule::Refusal;
 ghost use mathlib.Core.Path.{_≡_};
 ghost use Prim.Native.Nat.{_+_, _≤_, _<_};
-ghost use lib.ListN.{length, drop};
+ghost use lib.ListN.{length};
 ghost use Rattle.schedule.specs.Fields.{pair};
 ghost use Rattle.schedule.specs.Rule.{break, firstBreak};
 ghost use Rattle.schedule.specs.Model.{model};
-ghost use Rattle.schedule.specs.Plan.{plan, planForm, planThreadRow, planActivityRow, gridAt, planLength, wordRule};
+ghost use Rattle.schedule.specs.Plan.{plan, planForm, planThreadRow, planActivityRow, gridAt, planGrid, planLength, wordRule};
 ghost use Rattle.fields.specs.Put.{put};
 ghost use Rattle.records.specs.Rows.{planSizesOf, timing, spanOf, horizonHolds};
 ghost use Rattle.records.specs.Writes.{headBytes};
@@ -120,7 +120,7 @@ pub fn word(r: &[u8], t: u16) -> u32
 
 // The words of all ticks, of any bytes: the part behind the rows, to the end; empty where a plan does not reach so far.
 pub fn words(r: &[u8]) -> &[u8]
-    ensures { λ x. ⌜ now x ≡ drop (gridAt (plan (now (r .entry)) .threads) (plan (now (r .entry)) .activities)) (now (r .entry)) ⌝ }
+    ensures { λ x. ⌜ now x ≡ planGrid (now (r .entry)) ⌝ }
 {
     let sizes = counts(r);
     let at = grid_at(sizes.threads, sizes.activities);
@@ -191,7 +191,8 @@ pub fn put_activity_row(out: &mut [u8], threads: u8, a: Activity, row: Span)
 fn horizon_holds(s: &[u8], r: &[u8]) -> bool
     ensures { λ x. ⌜ x ≡ horizonHolds (now (s .entry)) (now (r .entry)) ⌝ }
 {
-    fields::be16(r, 7) == fields::be16(s, 8)
+    let sizes = model::counts(s);
+    fields::be16(r, 7) == sizes.horizon
 }
 
 // The word of tick t, or its refusal by rule 14: "a bit at or above m".
@@ -201,7 +202,8 @@ fn read_word(s: &[u8], r: &[u8], t: u16) -> RowRead
         (Row.Word (plan (now (r .entry)) .word t)) ⌝ }
 {
     let active = word(r, t);
-    let holds = form::none_from(active, fields::byte(s, 7));
+    let sizes = model::counts(s);
+    let holds = form::none_from(active, sizes.activities);
     rows::answer(holds, Row::Word(active), FormRefusal::WordBits, t as u32)
 }
 

@@ -101,15 +101,18 @@ module _ (m : Model) (q : Choice) (owed ends : List ℕ) (stopped : Stopped m q 
       ∙ ap (λ (k : ℕ). lowest k (λ a. not (eqb (getD owed a 0) 0))) en
       ∙ lowest-ext (m .activities) _ _ (λ a l. ap (λ (x : ℕ). not (eqb x 0)) (stopped .owed-ticks a l)))
 
-  late-is : (i : ℕ) (periods : List ℕ) → TableOf m periods (λ a. q .period (m .thread a))
-      → i ≡ lowest n (λ a. not (inTimeFrom periods ends a)) → Lowest (deadline .rows) (λ a. not (deadline .test a 0)) i
+  late-is : (i : ℕ) (releases periods : List ℕ) → TableOf m releases (λ a. q .release (m .thread a))
+      → TableOf m periods (λ a. q .period (m .thread a))
+      → i ≡ lowest n (λ a. not (inTimeFrom releases periods ends a))
+      → Lowest (deadline .rows) (λ a. not (deadline .test a 0)) i
   unfolding deadlineRule inTime inTimeFrom
-  late-is i periods held e =
+  late-is i releases periods released held e =
       is-lowest (m .activities) _ i
       (e
-      ∙ ap (λ (k : ℕ). lowest k (λ a. not (inTimeFrom periods ends a))) en
+      ∙ ap (λ (k : ℕ). lowest k (λ a. not (inTimeFrom releases periods ends a))) en
       ∙ lowest-ext (m .activities) _ _ (λ a l.
-      ap₂ (λ (period end : ℕ). not (onTime period period end)) (held a l) (stopped .end-ticks a l)))
+      ap (λ (release : ℕ). not (onTime release (getD periods a 0) (getD ends a 0))) (released a l)
+      ∙ ap₂ (λ (period end : ℕ). not (onTime (q .release (m .thread a)) period end)) (held a l) (stopped .end-ticks a l)))
 
   pub owed-first : (i : ℕ) → i ≡ lowest n (λ a. not (eqb (getD owed a 0) 0)) → i < n
       → firstBreak (runRules m q) ≡ some (record { number = 42; A = i; B = 0 })
@@ -120,20 +123,21 @@ module _ (m : Model) (q : Choice) (owed ends : List ℕ) (stopped : Stopped m q 
   unfolding owedRule
   owed-none i e l = break-none-at (owedRule m q) refl i (owing-is i e) (omega arith)
 
-  module _ (i j : ℕ) (periods : List ℕ) (held : TableOf m periods (λ a. q .period (m .thread a)))
+  module _ (i j : ℕ) (releases periods : List ℕ) (released : TableOf m releases (λ a. q .release (m .thread a)))
+      (held : TableOf m periods (λ a. q .period (m .thread a)))
       (ei : i ≡ lowest n (λ a. not (eqb (getD owed a 0) 0))) (li : n ≤ i)
-      (ej : j ≡ lowest n (λ a. not (inTimeFrom periods ends a))) where
+      (ej : j ≡ lowest n (λ a. not (inTimeFrom releases periods ends a))) where
     pub late-first : j < n → firstBreak (runRules m q) ≡ some (record { number = 43; A = j; B = 0 })
     unfolding runRules deadlineRule
     late-first l =
         rule-goes-on (owedRule m q) _ (owed-none i ei li)
-        ∙ rule-stops deadline [] _ (break-at deadline refl j (late-is j periods held ej) (omega arith))
+        ∙ rule-stops deadline [] _ (break-at deadline refl j (late-is j releases periods released held ej) (omega arith))
 
     pub none-late : n ≤ j → firstBreak (runRules m q) ≡ none
     unfolding runRules deadlineRule
     none-late l =
         rule-goes-on (owedRule m q) _ (owed-none i ei li)
-        ∙ rule-goes-on deadline [] (break-none-at deadline refl j (late-is j periods held ej) (omega arith))
+        ∙ rule-goes-on deadline [] (break-none-at deadline refl j (late-is j releases periods released held ej) (omega arith))
         ∙ none-left
 
 -- ---- the words, starts and ends of the buffer

@@ -33,9 +33,9 @@ pub record Entered (word t : ℕ) (starts starts′ : List ℕ) : Type 0 where
   pub sized : length starts′ ≡ 32
   pub entered : (a : ℕ) → a < 32 → getD starts′ a 0 ≡ cond (bit word a) t (getD starts a 0)
 
--- activity a keeps its deadline, from tables of periods and ends
-unfoldable pub inTimeFrom : List ℕ → List ℕ → ℕ → Bool
-inTimeFrom periods ends a = onTime (getD periods a 0) (getD periods a 0) (getD ends a 0)
+-- activity a keeps its deadline, from tables of releases, periods and ends
+unfoldable pub inTimeFrom : List ℕ → List ℕ → List ℕ → ℕ → Bool
+inTimeFrom releases periods ends a = onTime (getD releases a 0) (getD periods a 0) (getD ends a 0)
 
 -- what is written in front of a grid, from a buffer that has it and a table of ends
 unfoldable pub frontIn : Model → Choice → List ℕ → List ℕ → List ℕ

@@ -36,13 +36,14 @@ fn first_owing(n: usize, owed: &[u32; 32]) -> usize
 }
 
 // "43 all ended, an end breaks rule 23; A the lowest": that activity of the first n, n where every end keeps it.
-fn first_late(n: usize, periods: &[u32; 32], ends: &[u32; 32]) -> usize
+fn first_late(n: usize, releases: &[u32; 32], periods: &[u32; 32], ends: &[u32; 32]) -> usize
     requires { ⌜ n ≤ 32 ⌝ }
-    ensures { λ r. ⌜ r ≡ lowest n (λ a. not (inTimeFrom (now (periods .entry)) (now (ends .entry)) a)) ⌝ }
+    ensures { λ r. ⌜ r
+        ≡ lowest n (λ a. not (inTimeFrom (now (releases .entry)) (now (periods .entry)) (now (ends .entry)) a)) ⌝ }
 {
     let mut a = 0;
     while a < n {
-        if !on_time(periods[a], ends[a]) {
+        if !on_time(releases[a], periods[a], ends[a]) {
             return a;
         }
         a += 1;
@@ -68,8 +69,9 @@ pub(crate) fn judge(s: &[u8], q: &[u8], owed: &[u32; 32], ends: &[u32; 32]) -> P
     if owing < n {
         return Pass::Refused(refusal(RunRefusal::Owed, owing as u32));
     }
-    let periods = tables::columns::table(Column::Period, s, q);
-    let late = first_late(n, &periods, ends);
+    let releases = tables::columns::table(Column::ChosenRelease, s, q);
+    let periods = tables::columns::table(Column::ChosenPeriod, s, q);
+    let late = first_late(n, &releases, &periods, ends);
     if late < n {
         return Pass::Refused(refusal(RunRefusal::Late, late as u32));
     }

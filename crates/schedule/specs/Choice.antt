@@ -22,16 +22,16 @@ pub record Choice : Type 0 where
 abbrev pub choiceTiming : Choice → Timing
 choiceTiming q = record { release = q .release; period = q .period }
 
--- "Length 7 + 4n + 2m"
-abbrev pub choiceLength : ℕ → ℕ → ℕ
-choiceLength n m = 7 + 4 * n + 2 * m
-
 -- a choice's thread rows begin at 7, and its durations follow them
 abbrev pub choiceThreadRow : ℕ → ℕ
 choiceThreadRow j = pairRow 7 j
 
 abbrev pub durationAt : ℕ → ℕ → ℕ
 durationAt n a = choiceThreadRow n + 2 * a
+
+-- "Length 7 + 4n + 2m": where one more duration would stand
+abbrev pub choiceLength : ℕ → ℕ → ℕ
+choiceLength n m = durationAt n m
 
 unfoldable pub choice : List ℕ → Choice
 choice q =

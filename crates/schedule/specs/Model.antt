@@ -41,16 +41,16 @@ temporally m b a = bit (m .temporal-mask a) b
 abbrev pub byData : Model → ℕ → ℕ → Bool
 byData m b a = bit (m .data-mask a) b
 
--- "Length 10 + 10n + 15m"
-abbrev pub modelLength : ℕ → ℕ → ℕ
-modelLength n m = 10 + 10 * n + 15 * m
-
 -- a model's thread rows of 10 bytes begin at 10, and its activity rows of 15 bytes follow them
 abbrev pub threadRow : ℕ → ℕ
 threadRow j = 10 + 10 * j
 
 abbrev pub activityRow : ℕ → ℕ → ℕ
-activityRow n a = 10 + 10 * n + 15 * a
+activityRow n a = threadRow n + 15 * a
+
+-- "Length 10 + 10n + 15m": where one more activity row would begin
+abbrev pub modelLength : ℕ → ℕ → ℕ
+modelLength n m = activityRow n m
 
 -- the model that a record's bytes say
 unfoldable pub model : List ℕ → Model

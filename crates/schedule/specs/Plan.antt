@@ -5,7 +5,7 @@ use mathlib.Core.Bool.{Bool, _&&_, not}
 use mathlib.Core.List.{List, [], _∷_, _++_}
 use mathlib.Core.Path.{_≡_}
 use lib.Dec.{T, eqb, leb}
-use lib.ListN.{length}
+use lib.ListN.{length, drop}
 use Rattle.schedule.specs.Bounded.{all, bit, chain, _⇒_}
 use Rattle.schedule.specs.Fields.{field, bytes, pair, pairRow}
 use Rattle.schedule.specs.Rule.{Rule}
@@ -71,6 +71,10 @@ plan s =
       end = λ a. field s (planActivityRow n a + 2) 2;
       word = λ t. field s (gridAt n m + tickAt t) 4;
     }
+
+-- its grid, the words of all ticks: the part behind the rows
+abbrev pub planGrid : List ℕ → List ℕ
+planGrid s = drop (gridAt (plan s .threads) (plan s .activities)) s
 
 -- n rows of two fields: release and period by thread, start and end by activity
 abbrev pub pairRows : ℕ → (ℕ → ℕ) → (ℕ → ℕ) → List ℕ

@@ -13,23 +13,23 @@ pub record Timing : Type 0 where
   pub release : ℕ → ℕ
   pub period : ℕ → ℕ
 
--- the deadline of a thread that has a period: "that period"
-abbrev pub deadline : Timing → ℕ → ℕ
-deadline timing j = timing .period j
+-- the deadline of a thread that has a period, from its release and its period: "that period", whatever the release
+abbrev pub deadline : ℕ → ℕ → ℕ
+deadline release period = period
 
--- an end that is no later than it is due; a period of 0 is none, and nothing is due then
+-- an end that is no later than the deadline; a period of 0 is none, and there is no deadline then
 abbrev pub OnTime : ℕ → ℕ → ℕ → Type 0
-OnTime period due end = ¬ (period ≡ 0) → end ≤ due
+OnTime release period end = ¬ (period ≡ 0) → end ≤ deadline release period
 
 abbrev pub onTime : ℕ → ℕ → ℕ → Bool
-onTime period due end = not (eqb period 0) ⇒ leb end due
+onTime release period end = not (eqb period 0) ⇒ leb end (deadline release period)
 
 -- "a thread with a period has end ≤ that period", of activity a
 unfoldable pub InTime : Model → Timing → (ℕ → ℕ) → ℕ → Type 0
-InTime m timing end a = OnTime (timing .period (m .thread a)) (deadline timing (m .thread a)) (end a)
+InTime m timing end a = OnTime (timing .release (m .thread a)) (timing .period (m .thread a)) (end a)
 
 unfoldable pub inTime : Model → Timing → (ℕ → ℕ) → ℕ → Bool
-inTime m timing end a = onTime (timing .period (m .thread a)) (deadline timing (m .thread a)) (end a)
+inTime m timing end a = onTime (timing .release (m .thread a)) (timing .period (m .thread a)) (end a)
 
 -- the rule of that, of a plan's ends (23) and of the run's (43). A activity.
 unfoldable pub deadlineRule : ℕ → Model → Timing → (ℕ → ℕ) → Rule

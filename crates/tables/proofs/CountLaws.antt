@@ -6,14 +6,11 @@ use native.Mathlib.Nat.{mul-le-mul}
 use native.Mathlib.Omega.{arith}
 use mathlib.Core.Bool.{Bool, true, false, cond}
 use mathlib.Core.List.{List}
-use mathlib.Core.Path.{_≡_, sym, subst, ap, ap₂, _∙_}
-use lib.ListN.{length, getD, set, drop, List·getD-eq-default}
+use mathlib.Core.Path.{_≡_, sym, subst, ap₂, _∙_}
+use lib.ListN.{length, getD, set, List·getD-eq-default}
 use lib.Seq.{getD-set-same, getD-set-other}
 use Rattle.schedule.specs.Bounded.{bit, count, lowest}
-use Rattle.schedule.specs.Fields.{field}
-use Rattle.schedule.specs.Plan.{plan, gridAt, tickAt, wordIn}
 use Rattle.bits.specs.WithBit.{withoutBit}
-use Rattle.laws.proofs.FieldLaws.{field-drop}
 use Rattle.laws.proofs.Counting.{count-le}
 use Rattle.laws.proofs.Steps.{count-next}
 use Rattle.bits.proofs.WordLaws.{bit-zero}
@@ -61,18 +58,6 @@ tallied-next words t word l l′ e h tallied i less =
     tallied .one-more i less
     ∙ ap₂ (λ (x w : ℕ). x + cond (bit w i) 1 0) (h i less) e
     ∙ sym (count-next t (λ v. bit (words v) i))
-
--- ---- the words of a plan, read from its grid
-
-pub word-behind : (r : List ℕ) (t : ℕ)
-    → wordIn (drop (gridAt (plan r .threads) (plan r .activities)) r) t ≡ plan r .word t
-unfolding plan
-word-behind r t = field-drop (gridAt (field r 5 1) (field r 6 1)) r (tickAt t) 4
-
--- a word that was read there
-pub word-read : (r grid : List ℕ) (t word : ℕ) → grid ≡ drop (gridAt (plan r .threads) (plan r .activities)) r
-    → word ≡ wordIn grid t → word ≡ plan r .word t
-word-read r grid t word e w = w ∙ ap (λ (g : List ℕ). wordIn g t) e ∙ word-behind r t
 
 -- ---- the figures fit their fields
 

@@ -31,11 +31,11 @@ entryOf Column.Delay s r a = model s .delay a
 entryOf Column.Temporal s r a = amongActivities (model s) (λ b. temporally (model s) b a)
 entryOf Column.ByData s r a = amongActivities (model s) (λ b. byData (model s) b a)
 entryOf Column.Priority s r a = priorityOf (model s) a
-entryOf Column.Release s r a = choice r .release (model s .thread a)
-entryOf Column.Period s r a = choice r .period (model s .thread a)
-entryOf Column.Duration s r a = choice r .duration a
-entryOf Column.Start s r a = plan r .start a
-entryOf Column.End s r a = plan r .end a
+entryOf Column.ChosenRelease s r a = choice r .release (model s .thread a)
+entryOf Column.ChosenPeriod s r a = choice r .period (model s .thread a)
+entryOf Column.ChosenDuration s r a = choice r .duration a
+entryOf Column.PlanStart s r a = plan r .start a
+entryOf Column.PlanEnd s r a = plan r .end a
 
 -- a column
 unfoldable pub columnOf : Column → List ℕ → List ℕ → List ℕ

@@ -6,7 +6,8 @@ ghost use Rattle.schedule.specs.Model.{model};
 ghost use Rattle.tables.specs.Columns.{amongActivities, entryOf, columnOf};
 ghost use Rattle.schedule.specs.Bounded.{bit};
 
-// What a column holds: of the model, or of the second record, which is a choice or a plan.
+// What a column holds: of the model, or of the second record, whose bytes are read as the choice's or the plan's that the name
+// says.
 pub enum Column {
     // the model's
     Delay,
@@ -14,12 +15,12 @@ pub enum Column {
     ByData,
     Priority,
     // a choice's, the first two by the activity's thread
-    Release,
-    Period,
-    Duration,
+    ChosenRelease,
+    ChosenPeriod,
+    ChosenDuration,
     // a plan's
-    Start,
-    End,
+    PlanStart,
+    PlanEnd,
 }
 
 // How many activities have a place in a table: all of a model that meets its form rules.
@@ -55,11 +56,11 @@ fn entry(which: Column, s: &[u8], second: &[u8], a: Activity) -> u32
         Column::Temporal => among(s, row.temporal_mask),
         Column::ByData => among(s, row.data_mask),
         Column::Priority => wide(records::model::thread_row(s, row.thread).priority),
-        Column::Release => wide(records::choice::thread_row(second, row.thread).release),
-        Column::Period => wide(records::choice::thread_row(second, row.thread).period),
-        Column::Duration => wide(records::choice::duration(second, a)),
-        Column::Start => wide(records::plan::activity_row(second, a).start),
-        Column::End => wide(records::plan::activity_row(second, a).end),
+        Column::ChosenRelease => wide(records::choice::thread_row(second, row.thread).release),
+        Column::ChosenPeriod => wide(records::choice::thread_row(second, row.thread).period),
+        Column::ChosenDuration => wide(records::choice::duration(second, a)),
+        Column::PlanStart => wide(records::plan::activity_row(second, a).start),
+        Column::PlanEnd => wide(records::plan::activity_row(second, a).end),
     }
 }
 

@@ -62,6 +62,7 @@ pub fn masks(order: Order, s: &[u8]) -> [u32; 32]
     ensures { λ r. ⌜ r ≡ rankingOf order (model (now (s .entry))) ⌝ }
 {
     let n = columns::rows(s);
+    // a column of the model: the second record plays no part
     let priorities = columns::table(Column::Priority, s, s);
     let mut table = [0u32; 32];
     let mut number: u8 = 0;

@@ -4,7 +4,7 @@ ghost use mathlib.Core.Path.{_≡_};
 ghost use mathlib.Core.Bool.{_&&_, cond};
 ghost use Prim.Native.Nat.{_+_};
 ghost use lib.Dec.{leb, ltb};
-ghost use Rattle.schedule.specs.Timing.{onTime};
+ghost use Rattle.schedule.specs.Timing.{deadline, onTime};
 
 // "end + that predecessor's delay ≤ t", for every end and delay: no sum is made.
 pub fn passed(end: u32, delay: u32, t: u32) -> bool
@@ -13,11 +13,22 @@ pub fn passed(end: u32, delay: u32, t: u32) -> bool
     if end <= t { delay <= t - end } else { false }
 }
 
-// "a thread with a period has end ≤ that period": period 0 is none, and the deadline is the period.
-pub fn on_time(period: u32, end: u32) -> bool
-    ensures { λ r. ⌜ r ≡ onTime period period end ⌝ }
+// The deadline of a thread that has a period: "that period", whatever the release.
+fn deadline(_release: u32, period: u32) -> u32
+    ensures { λ r. ⌜ r ≡ deadline «_release» period ⌝ }
 {
-    if period == 0 { true } else { end <= period }
+    period
+}
+
+// "a thread with a period has end ≤ that period": period 0 is none.
+pub fn on_time(release: u32, period: u32, end: u32) -> bool
+    ensures { λ r. ⌜ r ≡ onTime release period end ⌝ }
+{
+    if period == 0 {
+        true
+    } else {
+        end <= deadline(release, period)
+    }
 }
 
 // `next`, or `other` where that comes after tick t and before `next`.

@@ -8,7 +8,7 @@ ghost use mathlib.Core.Path.{_≡_};
 ghost use Rattle.schedule.specs.Streams.{viewRefusal, viewWord};
 ghost use Rattle.schedule.specs.Numbers.{wordNumbers};
 ghost use Rattle.records.specs.Reads.{passNumbers};
-ghost use Rattle.view.specs.Grid.{wordsFrom, heldFrom, heldBytes, viewBytes, gridWord};
+ghost use Rattle.view.specs.Grid.{heldBytes, viewBytes, gridWord};
 
 // "a struct over the plan's grid slice", and what its making answered.
 pub struct View<'a> {
@@ -33,32 +33,14 @@ pub fn refusal(model: &[u8], plan: &[u8]) -> Pass
     Pass::Holds
 }
 
-// Where the words of a plan begin, of any bytes.
-fn words_from(plan: &[u8]) -> usize
-    ensures { λ r. ⌜ r ≡ wordsFrom (now (plan .entry)) ⌝ }
-{
-    let sizes = records::plan::counts(plan);
-    records::plan::grid_at(sizes.threads, sizes.activities)
-}
-
-// Where the part that is held begins: the end of the plan where the making is refused.
-fn held_from(plan: &[u8], made: Pass) -> usize
-    ensures { λ r. ⌜ r ≡ heldFrom (passNumbers made) (now (plan .entry)) ⌝ }
-{
-    let end = plan.len();
-    if let Pass::Refused(_) = made {
-        return end;
-    }
-    let start = words_from(plan);
-    if start < end { start } else { end }
-}
-
-// The part of a plan that is held.
+// The part of a plan that is held: its words, and none where the making is refused.
 fn held(plan: &[u8], made: Pass) -> &[u8]
     ensures { λ r. ⌜ now r ≡ heldBytes (passNumbers made) (now (plan .entry)) ⌝ }
 {
-    let start = held_from(plan, made);
-    &plan[start..]
+    if let Pass::Refused(_) = made {
+        return &plan[0..0];
+    }
+    records::plan::words(plan)
 }
 
 // The word at a tick, of any part that is held.

@@ -1,32 +1,47 @@
--- `view::held` meets its contract: the part that begins there is what is held. Assumes nothing.
-use native.Mathlib.Omega.{arith}
+-- `view::held` meets its contract: the plan's words, or nothing where the making is refused.
+-- Assumes nothing.
+use mathlib.Core.Option.{Option}
+use mathlib.Core.Path.{refl}
+use Rattle.view.specs.Grid.{heldBytes}
 use borrow.Author.Needs.{needs}
-use Rattle.records.specs.Reads.{passNumbers}
-use Rattle.view.proofs.HeldLaws.{held-from-le, held-part}
 use Rattle.view.proofs.held.Statement.{statement}
 use Rattle.view.proofs.held.Tie as tie
 
-held-from-requires : tie.Need-held-from-requires
-held-from-requires c κs = search needs
+enum-told : tie.Need-enum-told
+enum-told c = search needs
 
 sub-result : tie.Need-sub-result
-sub-result c =
-    let x = c .before .before .args in
-    omega (arith, held-from-le (passNumbers (x .made)) (x .plan .now), c .held-from .ensures)
+sub-result c = search needs
 
 part-result-start : tie.Need-part-result-start
-part-result-start c =
-    let x = c .before .before .args in
-    omega (arith, held-from-le (passNumbers (x .made)) (x .plan .now), c .held-from .ensures)
+part-result-start c = search needs
 
 part-result-end : tie.Need-part-result-end
 part-result-end c = search needs
 
 returns : tie.Need-returns
-returns c =
-    let x = c .before .before .before .args in
-    rw (c .before .held-from .ensures) (held-part (passNumbers (x .made)) (x .plan .now))
+unfolding heldBytes
+returns c = rw (c .before .enum-told .given .1) refl
+
+enum-told-2 : tie.Need-enum-told-2
+enum-told-2 c = search needs
+
+words-requires : tie.Need-words-requires
+words-requires c κs = search needs
+
+returns-2 : tie.Need-returns-2
+unfolding heldBytes
+returns-2 c = rw (c .before .enum-told2 .given .1) (c .words .ensures)
 
 pub held-spec : {M : Type 1} → statement M
 held-spec =
-    tie.close (tie.spec held-from-requires sub-result part-result-start part-result-end returns)
+    tie.close
+    (tie.spec
+    enum-told
+    sub-result
+    part-result-start
+    part-result-end
+    returns
+    enum-told-2
+    words-requires
+    returns-2)

@@ -1,6 +1,5 @@
 -- `checks::activity::deadline_holds` meets its contract: the thread's period and the activity's end.
 -- Assumes nothing.
-use Prim.Native.Nat.{ℕ}
 use mathlib.Core.Path.{ap, ap₂, _∙_}
 use Rattle.schedule.specs.Plan.{plan}
 use Rattle.schedule.specs.Timing.{onTime, inTime}
@@ -29,16 +28,20 @@ cast-on-time-2 c = search needs
 on-time-requires : tie.Need-on-time-requires
 on-time-requires c κs = search needs
 
+cast-on-time-3 : tie.Need-cast-on-time-3
+cast-on-time-3 c = search needs
+
 returns : tie.Need-returns
 unfolding timing spanOf inTime
 returns c =
     let c4 = c .before .before .before .before in
-    let x = c4 .before .before .before .before .args in
+    let c6 = c4 .before .before in
+    let x = c6 .before .before .before .args in
     c .on-time .ensures
-    ∙ ap₂ (λ (period end : ℕ). onTime period period end)
-    (ap (λ (y : Timing). y .period) (c4 .thread-row .ensures)
-    ∙ ap (λ j. plan (x .r .now) .period (j .0)) (c4 .before .thread-of .ensures))
-    (ap (λ (y : Span). y .end) (c .before .before .before .activity-row .ensures))
+    ∙ ap₂ (λ (y : Timing) (z : Span). onTime (y .release) (y .period) (z .end))
+    (c4 .before .thread-row .ensures
+    ∙ ap (λ j. timing (plan (x .r .now) .release (j .0)) (plan (x .r .now) .period (j .0))) (c6 .thread-of .ensures))
+    (c4 .activity-row .ensures)
 
 pub deadline-holds-spec : {M : Type 1} → statement M
 deadline-holds-spec =
@@ -49,5 +52,6 @@ deadline-holds-spec =
     activity-row-requires
     cast-on-time
     cast-on-time-2
+    cast-on-time-3
     on-time-requires
     returns)

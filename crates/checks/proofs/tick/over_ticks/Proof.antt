@@ -9,7 +9,7 @@ use Rattle.schedule.specs.Numbers.{ruleNumber}
 use Rattle.records.specs.declared.model.Sizes.{Sizes}
 use Rattle.records.specs.Rows.{sizesOf}
 use Rattle.laws.proofs.RowLaws.{ClearTo, clear-start, clear-again, clear-end, clear-stop}
-use Rattle.tables.proofs.CountLaws.{word-read}
+use Rattle.laws.proofs.PlanBytes.{word-read}
 use Rattle.ticks.specs.Kept.{Stands}
 use Rattle.ticks.proofs.KeptLaws.{stands-unknown, stands-on}
 use Rattle.checks.specs.Tables.{ends, froms, tickRule, Tabulated, Ranked}

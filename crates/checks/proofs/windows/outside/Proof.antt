@@ -8,7 +8,7 @@ use lib.Dec.{leb, ltb}
 use lib.ListN.{getD}
 use Rattle.schedule.specs.Bounded.{all, bit, _⇒_}
 use Rattle.schedule.specs.Plan.{plan, active}
-use Rattle.tables.proofs.CountLaws.{word-read}
+use Rattle.laws.proofs.PlanBytes.{word-read}
 use Rattle.ticks.specs.Kept.{Stands}
 use Rattle.ticks.proofs.KeptLaws.{stands-unknown, stands-on}
 use Rattle.checks.specs.Windows.{openOf, without}

@@ -1,31 +1,16 @@
 -- `model::activity_row` meets its contract: the fields read are those of the definition.
 -- Assumes nothing.
-use borrow.Author.Needs.{needs}
-use Rattle.records.specs.Rows.{activityRowOf}
 use Rattle.schedule.specs.Model.{model}
+use Rattle.records.specs.Rows.{activityRowOf}
+use borrow.Author.Needs.{needs}
 use Rattle.records.proofs.model.activity_row.Statement.{statement}
 use Rattle.records.proofs.model.activity_row.Tie as tie
 
 byte-requires : tie.Need-byte-requires
 byte-requires c κs = search needs
 
-cast-at : tie.Need-cast-at
-cast-at c = search needs
-
-mul-at : tie.Need-mul-at
-mul-at c = search needs
-
-add-at : tie.Need-add-at
-add-at c = search needs
-
-cast-at-2 : tie.Need-cast-at-2
-cast-at-2 c = search needs
-
-mul-at-2 : tie.Need-mul-at-2
-mul-at-2 c = search needs
-
-add-at-2 : tie.Need-add-at-2
-add-at-2 c = search needs
+activity-at-requires : tie.Need-activity-at-requires
+activity-at-requires c κs = search needs
 
 byte-requires-2 : tie.Need-byte-requires-2
 byte-requires-2 c κs = search needs
@@ -66,7 +51,8 @@ returns c =
     let c2 = c .before .before in
     let c4 = c2 .before .before in
     rw (
-      ← c4 .before .before .byte .ensures,
+      ← c4 .before .before .before .byte .ensures,
+      ← c4 .before .before .activity-at .ensures,
       ← c4 .before .byte2 .ensures,
       ← c4 .be16 .ensures,
       ← c2 .before .be162 .ensures,
@@ -80,12 +66,7 @@ activity-row-spec =
     tie.close
     (tie.spec
     byte-requires
-    cast-at
-    mul-at
-    add-at
-    cast-at-2
-    mul-at-2
-    add-at-2
+    activity-at-requires
     byte-requires-2
     add-be16
     be16-requires

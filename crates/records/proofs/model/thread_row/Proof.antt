@@ -1,19 +1,13 @@
 -- `model::thread_row` meets its contract: the fields read are those of the definition.
 -- Assumes nothing.
-use borrow.Author.Needs.{needs}
-use Rattle.records.specs.Rows.{threadRowOf}
 use Rattle.schedule.specs.Model.{model}
+use Rattle.records.specs.Rows.{threadRowOf}
+use borrow.Author.Needs.{needs}
 use Rattle.records.proofs.model.thread_row.Statement.{statement}
 use Rattle.records.proofs.model.thread_row.Tie as tie
 
-cast-at : tie.Need-cast-at
-cast-at c = search needs
-
-mul-at : tie.Need-mul-at
-mul-at c = search needs
-
-add-at : tie.Need-add-at
-add-at c = search needs
+thread-at-requires : tie.Need-thread-at-requires
+thread-at-requires c κs = search needs
 
 be16-requires : tie.Need-be16-requires
 be16-requires c κs = search needs
@@ -46,8 +40,10 @@ returns : tie.Need-returns
 unfolding threadRowOf model
 returns c =
     let c2 = c .before .before in
+    let c4 = c2 .before .before in
     rw (
-      ← c2 .before .before .be16 .ensures,
+      ← c4 .before .thread-at .ensures,
+      ← c4 .be16 .ensures,
       ← c2 .before .be162 .ensures,
       ← c2 .be163 .ensures,
       ← c .before .be164 .ensures,
@@ -58,9 +54,7 @@ pub thread-row-spec : {M : Type 1} → statement M
 thread-row-spec =
     tie.close
     (tie.spec
-    cast-at
-    mul-at
-    add-at
+    thread-at-requires
     be16-requires
     add-be16
     be16-requires-2

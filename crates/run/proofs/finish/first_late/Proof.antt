@@ -11,15 +11,15 @@ use Rattle.run.proofs.finish.first_late.Statement.{statement}
 use Rattle.run.proofs.finish.first_late.Tie as tie
 
 abbrev Inv-loop : tie.InvT-loop
-Inv-loop n periods ends a₀ a = (a ≤ n) × Clear (λ a. not (inTimeFrom periods ends a)) a
+Inv-loop n releases periods ends a₀ a = (a ≤ n) × Clear (λ a. not (inTimeFrom releases periods ends a)) a
 
 abbrev μ-loop : tie.MeasureT-loop
-μ-loop n periods ends a₀ a = n - a
+μ-loop n releases periods ends a₀ a = n - a
 
 loop-holds : tie.Need-loop-holds Inv-loop μ-loop
 loop-holds c =
     let x = c .args in
-    (omega arith, clear-none (λ a. not (inTimeFrom (x .periods .now) (x .ends .now) a)))
+    (omega arith, clear-none (λ a. not (inTimeFrom (x .releases .now) (x .periods .now) (x .ends .now) a)))
 
 mul-on-time : tie.Need-mul-on-time Inv-loop μ-loop
 mul-on-time c = omega arith
@@ -33,16 +33,22 @@ mul-on-time-2 c = omega arith
 element-copy-out-on-time-2 : tie.Need-element-copy-out-on-time-2 Inv-loop μ-loop
 element-copy-out-on-time-2 c = omega arith
 
+mul-on-time-3 : tie.Need-mul-on-time-3 Inv-loop μ-loop
+mul-on-time-3 c = omega arith
+
+element-copy-out-on-time-3 : tie.Need-element-copy-out-on-time-3 Inv-loop μ-loop
+element-copy-out-on-time-3 c = omega arith
+
 on-time-requires : tie.Need-on-time-requires Inv-loop μ-loop
 on-time-requires c κs = search needs
 
 returns : tie.Need-returns Inv-loop μ-loop
 unfolding inTimeFrom
 returns c =
-    let c5 = c .before .before .before .before .before in
-    let x = c5 .before .args in
-    let l = c5 .loop in
-    let p : ℕ → Bool = λ a. not (inTimeFrom (x .periods .now) (x .ends .now) a) in
+    let c6 = c .before .before .before .before .before .before in
+    let x = c6 .before .args in
+    let l = c6 .loop in
+    let p : ℕ → Bool = λ a. not (inTimeFrom (x .releases .now) (x .periods .now) (x .ends .now) a) in
     found-here (x .n) p (l .a) (not (c .before .on-time .result)) (omega arith) (l .inv .1)
     (ap not (c .before .on-time .ensures)) (subst T (sym (c .if1 .taken)) tt)
 
@@ -55,10 +61,10 @@ loop-less c = omega arith
 loop-again : tie.Need-loop-again Inv-loop μ-loop
 unfolding inTimeFrom
 loop-again c =
-    let c5 = c .before .before .before .before .before in
-    let x = c5 .before .args in
-    let l = c5 .loop in
-    let p : ℕ → Bool = λ a. not (inTimeFrom (x .periods .now) (x .ends .now) a) in (
+    let c6 = c .before .before .before .before .before .before in
+    let x = c6 .before .args in
+    let l = c6 .loop in
+    let p : ℕ → Bool = λ a. not (inTimeFrom (x .releases .now) (x .periods .now) (x .ends .now) a) in (
       omega arith,
       clear-more p (l .a) (not (c .before .on-time .result)) (l .inv .1) (ap not (c .before .on-time .ensures))
           (λ t. subst T (c .if1 .left) t),
@@ -78,6 +84,8 @@ first-late-spec =
     element-copy-out-on-time
     mul-on-time-2
     element-copy-out-on-time-2
+    mul-on-time-3
+    element-copy-out-on-time-3
     on-time-requires
     returns
     add-a

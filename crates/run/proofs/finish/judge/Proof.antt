@@ -44,12 +44,14 @@ returns c =
 table-requires : tie.Need-table-requires
 table-requires c κs = search needs
 
+table-requires-2 : tie.Need-table-requires-2
+table-requires-2 c κs = search needs
+
 first-late-requires : tie.Need-first-late-requires
 unfolding sizesOf
 first-late-requires c κs =
-    let c5 = c .before .before .before .before .before in
-    let c8 = c5 .before .before .before in
-    omega (arith, ap (λ (r : Sizes). r .activities) (c5 .counts .ensures), c8 .pre .formed .activities .1)
+    let c7 = c .before .before .before .before .before .before .before in
+    omega (arith, ap (λ (r : Sizes). r .activities) (c7 .counts .ensures), c7 .before .before .before .pre .formed .activities .1)
 
 cast-refusal-2 : tie.Need-cast-refusal-2
 cast-refusal-2 c = search needs
@@ -61,25 +63,27 @@ returns-2 : tie.Need-returns-2
 unfolding sizesOf columnOf
 returns-2 c =
     let c2 = c .before .before in
-    let c4 = c2 .before .before in
-    let c6 = c4 .before .before in
+    let c6 = c2 .before .before .before .before in
     let c8 = c6 .before .before in
-    let c11 = c8 .before .before .before in
+    let c10 = c8 .before .before in
+    let start = c10 .before .before .before in
+    let few = start .pre .formed .activities .1 in
     ap {B = Option Refusal} some (c .refusal2 .ensures)
-    ∙ sym (late-first _ _ _ _ (c11 .pre) _ (ap (λ (r : Sizes). r .activities) (c8 .counts .ensures)) _ _ _
-    (by-table _ _ _ (c11 .pre .formed .activities .1) (c4 .table .ensures))
-    (c6 .first-owing .ensures) (c4 .before .if1 .left) (c2 .first-late .ensures) (c .before .if2 .taken))
+    ∙ sym (late-first _ _ _ _ (start .pre) _ (ap (λ (r : Sizes). r .activities) (c10 .counts .ensures)) _ _ _ _
+    (by-table _ _ _ few (c6 .table .ensures)) (by-table _ _ _ few (c2 .before .before .before .table2 .ensures))
+    (c8 .first-owing .ensures) (c6 .before .if1 .left) (c2 .first-late .ensures) (c .before .if2 .taken))
 
 returns-3 : tie.Need-returns-3
 unfolding sizesOf columnOf
 returns-3 c =
-    let c3 = c .before .before .before in
-    let c5 = c3 .before .before in
+    let c5 = c .before .before .before .before .before in
     let c7 = c5 .before .before in
-    let c10 = c7 .before .before .before in
-    sym (none-late _ _ _ _ (c10 .pre) _ (ap (λ (r : Sizes). r .activities) (c7 .counts .ensures)) _ _ _
-    (by-table _ _ _ (c10 .pre .formed .activities .1) (c3 .table .ensures))
-    (c5 .first-owing .ensures) (c3 .before .if1 .left) (c .before .first-late .ensures) (c .if2 .left))
+    let c9 = c7 .before .before in
+    let start = c9 .before .before .before in
+    let few = start .pre .formed .activities .1 in
+    sym (none-late _ _ _ _ (start .pre) _ (ap (λ (r : Sizes). r .activities) (c9 .counts .ensures)) _ _ _ _
+    (by-table _ _ _ few (c5 .table .ensures)) (by-table _ _ _ few (c .before .before .before .before .table2 .ensures))
+    (c7 .first-owing .ensures) (c5 .before .if1 .left) (c .before .first-late .ensures) (c .if2 .left))
 
 pub judge-spec : {M : Type 1} → statement M
 judge-spec =
@@ -92,6 +96,7 @@ judge-spec =
     refusal-requires
     returns
     table-requires
+    table-requires-2
     first-late-requires
     cast-refusal-2
     refusal-requires-2

@@ -15,7 +15,8 @@ use Rattle.records.specs.Rows.{sizesOf}
 use Rattle.laws.proofs.Counting.{count-ext}
 use Rattle.laws.proofs.Ranges.{horizon-lt}
 use Rattle.laws.proofs.Steps.{count-start, zeros-at}
-use Rattle.tables.proofs.CountLaws.{tallied-next, few-counted, word-behind}
+use Rattle.laws.proofs.PlanBytes.{word-behind}
+use Rattle.tables.proofs.CountLaws.{tallied-next, few-counted}
 use Rattle.tables.proofs.TableLaws.{table-whole}
 use Rattle.tables.proofs.counts.counts.Statement.{statement}
 use Rattle.tables.proofs.counts.counts.Tie as tie

@@ -10,7 +10,8 @@ use Rattle.schedule.specs.Answers.{figures}
 use Rattle.records.specs.declared.model.Sizes.{Sizes}
 use Rattle.records.specs.Rows.{sizesOf}
 use Rattle.laws.proofs.Sums.{total-ext}
-use Rattle.tables.proofs.CountLaws.{product-fits, word-behind}
+use Rattle.laws.proofs.PlanBytes.{word-behind}
+use Rattle.tables.proofs.CountLaws.{product-fits}
 use borrow.Author.Needs.{needs}
 use Rattle.tables.proofs.figures.figures.Statement.{statement}
 use Rattle.tables.proofs.figures.figures.Tie as tie
