@@ -13,8 +13,7 @@ use Rattle.schedule.specs.Rule.{Rule}
 use Rattle.schedule.specs.Model.{Model, within, temporally, byData}
 use Rattle.schedule.specs.Plan.{Plan, active}
 use Rattle.schedule.specs.Numbers.{ruleNumber}
-use Rattle.schedule.specs.Timing.{deadlineRule}
-use Rattle.schedule.specs.Checks.{countOf, efe, window, rule21, rule22, rule23, rule24, rule25, rule26, rule27}
+use Rattle.schedule.specs.Checks.{countOf, efe, window, rule22, rule24, rule25, rule26, rule27}
 use Rattle.laws.proofs.Words.{wordOf-ext}
 use Rattle.laws.proofs.Opened.{check-rules}
 use Rattle.laws.proofs.Named.{rule-number}

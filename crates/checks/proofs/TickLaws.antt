@@ -14,7 +14,7 @@ use lib.Pow.{pow-mono}
 use Rattle.schedule.specs.Bounded.{all, ones, bit, wordOf}
 use Rattle.schedule.specs.Model.{Model, priorityOf}
 use Rattle.schedule.specs.Plan.{Plan, active}
-use Rattle.schedule.specs.Checks.{waits, rule28, rule29, rule30, rule31}
+use Rattle.schedule.specs.Checks.{waits}
 use Rattle.schedule.specs.Numbers.{ruleNumber}
 use Rattle.laws.proofs.Tests.{T-all}
 use Rattle.laws.proofs.Counting.{T-ext, T-false}

@@ -16,7 +16,7 @@ use Rattle.laws.proofs.RowLaws.{ClearTo, clear-again, clear-end, clear-stop, re
 use Rattle.records.specs.declared.Pass.{Pass}
 use Rattle.records.specs.declared.rows.Row.{Row}
 use Rattle.records.specs.declared.rows.RowRead.{RowRead}
-use Rattle.records.specs.Reads.{refusalIn, refusalOf, answerAt, rowAnswer, rowReadNumbers, passNumbers, passOf, pick}
+use Rattle.records.specs.Reads.{refusalOf, answerAt, rowAnswer, rowReadNumbers, passNumbers, passOf, pick}
 
 -- a call that tells a test said no, or yes
 pub told-no : {r s : Bool} → r ≡ s → not r ≡ true → s ≡ false

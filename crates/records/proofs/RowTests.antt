@@ -3,7 +3,7 @@
 use Prim.Native.Nat.{ℕ}
 use mathlib.Core.Bool.{Bool, _&&_}
 use mathlib.Core.List.{List}
-use mathlib.Core.Path.{_≡_, refl, sym, ap, ap₂, _∙_}
+use mathlib.Core.Path.{_≡_, sym, ap, ap₂, _∙_}
 use Rattle.schedule.specs.Answers.{Answer}
 use Rattle.schedule.specs.Model.{Model, within, threadRule, activityRule, maskRule}
 use Rattle.schedule.specs.Choice.{Choice, durationRule, rangeRule}

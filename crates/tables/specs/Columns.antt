@@ -1,12 +1,12 @@
 -- Tables by activity: what each column of the records holds.
 -- Assumes nothing.
-use Prim.Native.Nat.{ℕ, _+_, _<_}
+use Prim.Native.Nat.{ℕ, _<_}
 use mathlib.Core.Bool.{Bool, _&&_, cond}
 use mathlib.Core.List.{List}
 use mathlib.Core.Path.{_≡_}
 use lib.Dec.{ltb}
-use lib.ListN.{length, getD}
-use Rattle.schedule.specs.Bounded.{bit, table, wordOf}
+use lib.ListN.{getD}
+use Rattle.schedule.specs.Bounded.{table, wordOf}
 use Rattle.schedule.specs.Model.{Model, model, priorityOf, temporally, byData}
 use Rattle.schedule.specs.Choice.{choice}
 use Rattle.schedule.specs.Plan.{plan}

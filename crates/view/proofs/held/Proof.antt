@@ -1,6 +1,5 @@
 -- `view::held` meets its contract: the plan's words, or nothing where the making is refused.
 -- Assumes nothing.
-use mathlib.Core.Option.{Option}
 use mathlib.Core.Path.{refl}
 use Rattle.view.specs.Grid.{heldBytes}
 use borrow.Author.Needs.{needs}

@@ -1,6 +1,6 @@
 -- `form::counts_hold` meets its contract: each way out has the tests that led there.
 -- Assumes nothing.
-use mathlib.Core.Path.{_≡_, sym, ap}
+use mathlib.Core.Path.{ap}
 use borrow.Author.Tests.{eq-eqb, ne-eqb, not-false, not-true}
 use Rattle.records.specs.declared.model.Sizes.{Sizes}
 use Rattle.records.specs.Rows.{sizesOf, countsHold}

@@ -1,6 +1,6 @@
 -- `plan::horizon_holds` meets its contract: the fields read are those of the definition.
 -- Assumes nothing.
-use mathlib.Core.Path.{ap, _∙_}
+use mathlib.Core.Path.{ap}
 use lib.Dec.{eqb}
 use Rattle.records.specs.declared.model.Sizes.{Sizes}
 use Rattle.records.specs.Rows.{sizesOf, horizonHolds}
@@ -16,7 +16,9 @@ be16-requires c κs = search needs
 
 returns : tie.Need-returns
 unfolding horizonHolds sizesOf
-returns c = rw (← c .before .be16 .ensures) (ap (λ (y : Sizes). eqb (c .before .be16 .result) (y .horizon)) (c .before .before .counts .ensures))
+returns c =
+    rw (← c .before .be16 .ensures)
+    (ap (λ (y : Sizes). eqb (c .before .be16 .result) (y .horizon)) (c .before .before .counts .ensures))
 
 pub horizon-holds-spec : {M : Type 1} → statement M
 horizon-holds-spec = tie.close (tie.spec counts-requires be16-requires returns)

@@ -8,7 +8,7 @@ use lib.ListN.{length, getD}
 use borrow.Author.Needs.{needs}
 use Rattle.schedule.specs.Bounded.{bit, count}
 use Rattle.schedule.specs.Model.{model}
-use Rattle.schedule.specs.Plan.{plan, wordIn}
+use Rattle.schedule.specs.Plan.{wordIn}
 use Rattle.schedule.specs.Checks.{countOf}
 use Rattle.records.specs.declared.model.Sizes.{Sizes}
 use Rattle.records.specs.Rows.{sizesOf}
