@@ -1,6 +1,6 @@
 -- efe and the ticks from which activities can wait, as the table loops make them.
 -- Assumes nothing.
-use Prim.Native.Nat.{ℕ, zero, suc, _+_, _*_, _≤_, _<_, max}
+use Prim.Native.Nat.{ℕ, zero, suc, _+_, _*_, _≤_, _<_, max, min}
 use native.Mathlib.Decide.{decLt, ℕ-discrete}
 use native.Mathlib.Omega.{arith}
 use mathlib.Core.Bool.{Bool, true, false, cond}
@@ -51,11 +51,13 @@ term-other t d v x y e f = sym (ap₂ (λ (b c : Bool). cond b (x + y) (cond c x
 
 -- one predecessor's term, as the code reads it
 pub term-reads : (temporal by-data b done done′ delay delay′ free : ℕ) (t d : Bool)
-    → free ≡ cond t (done + delay) (cond d done 0)
-    → t ≡ bit temporal b → d ≡ bit by-data b → done ≡ done′ → delay ≡ delay′
+    → free ≡ cond t (min (done + delay) 4294967295) (cond d done 0)
+    → t ≡ bit temporal b → d ≡ bit by-data b → done ≡ done′ → delay ≡ delay′ → done′ < 2147483648 → delay′ < 65536
     → free ≡ cond (bit temporal b) (done′ + delay′) (cond (bit by-data b) done′ 0)
-term-reads temporal by-data b done done′ delay delay′ free t d e ht hd h k =
-    e ∙ ap (λ (x : Bool). cond x (done + delay) (cond d done 0)) ht
+term-reads temporal by-data b done done′ delay delay′ free t d e ht hd h k early short =
+    let whole : min (done + delay) 4294967295 ≡ done + delay = omega arith in
+    e ∙ ap (λ (y : ℕ). cond t y (cond d done 0)) whole
+    ∙ ap (λ (x : Bool). cond x (done + delay) (cond d done 0)) ht
     ∙ ap₂ (λ (y : ℕ) (x : Bool). cond (bit temporal b) (done + y) (cond x done 0)) k hd
     ∙ ap (λ (y : ℕ). cond (bit temporal b) (y + delay′) (cond (bit by-data b) y 0)) h
 

@@ -4,26 +4,15 @@ use crate::page::thread_of;
 use numbers::larger;
 use numbers::less;
 use records::model::Activity;
+use ticks::let_go;
 ghost use mathlib.Core.Path.{_≡_};
-ghost use mathlib.Core.Bool.{cond};
-ghost use Prim.Native.Nat.{ℕ, _+_, _≤_, _<_, max};
+ghost use Prim.Native.Nat.{ℕ, _≤_, _<_, max};
 ghost use lib.ListN.{getD};
 ghost use Rattle.schedule.specs.Model.{model, Ordered};
 ghost use Rattle.schedule.specs.Plan.{plan};
 ghost use Rattle.schedule.specs.Checks.{countOf};
 ghost use Rattle.tables.specs.Columns.{TableOf};
 ghost use Rattle.checks.specs.Tables.{after, finishOf, fromOf};
-
-// When a predecessor that is done at a tick lets go: with its delay if it is a temporal one, at once if by data.
-fn let_go(temporal: bool, by_data: bool, done: u32, delay: u32) -> u32
-    requires { ⌜ (done < 2147483648) × (delay < 65536) ⌝ }
-    ensures { λ r. ⌜ r ≡ cond temporal (done + delay) (cond «by_data» done 0) ⌝ }
-{
-    if temporal {
-        return done + delay;
-    }
-    if by_data { done } else { 0 }
-}
 
 // The latest that a's predecessors let go, where a table says when each activity is done.
 fn after(s: &[u8], n: u8, a: Activity, delays: &[u32; 32], done: &[u32; 32]) -> u32

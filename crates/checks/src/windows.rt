@@ -64,7 +64,7 @@ pub(crate) fn at(known: Kept, n: usize, froms: &[u32; 32], ends: &[u32; 32], t: 
     ensures { λ r. ⌜ (r .word ≡ openOf n (now (froms .entry)) (now (ends .entry)) t)
         × Stands (openOf n (now (froms .entry)) (now (ends .entry))) r t ⌝ }
 {
-    if t < known.until {
+    if known.lasts(t) {
         return known;
     }
     Kept {

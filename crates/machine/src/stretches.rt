@@ -58,7 +58,7 @@ pub(crate) fn at(
     ensures { λ r. ⌜ (r .word ≡ tickWord n c (now (tables .entry)) (now (owed .entry)) (now (ends .entry)) t)
         × Lasts n c (now (tables .entry)) (now (owed .entry)) (now (ends .entry)) r t ⌝ }
 {
-    if t < known.until {
+    if known.lasts(t) {
         return known;
     }
     let word = tick::tick(n, c, tables, owed, ends, t);

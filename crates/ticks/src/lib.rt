@@ -1,8 +1,9 @@
 // The paper's comparisons of ticks, made once for the checks and for the run, and a word that is kept from one change to the
 // next.
+use numbers::sum;
 ghost use mathlib.Core.Path.{_≡_};
 ghost use mathlib.Core.Bool.{_&&_, cond};
-ghost use Prim.Native.Nat.{_+_};
+ghost use Prim.Native.Nat.{_+_, min};
 ghost use lib.Dec.{leb, ltb};
 ghost use Rattle.schedule.specs.Timing.{deadline, onTime};
 
@@ -31,6 +32,17 @@ pub fn on_time(release: u32, period: u32, end: u32) -> bool
     }
 }
 
+// When a predecessor that is done at a tick lets go: with its delay if it is a temporal one, at once if by data, and of no
+// concern if it is none. The sum stops at the largest number.
+pub fn let_go(temporal: bool, by_data: bool, done: u32, delay: u32) -> u32
+    ensures { λ r. ⌜ r ≡ cond temporal (min (done + delay) 4294967295) (cond «by_data» done 0) ⌝ }
+{
+    if temporal {
+        return sum(done, delay);
+    }
+    if by_data { done } else { 0 }
+}
+
 // `next`, or `other` where that comes after tick t and before `next`.
 pub fn sooner(next: u32, other: u32, t: u32) -> u32
     ensures { λ r. ⌜ r ≡ cond (ltb t other && ltb other next) other next ⌝ }
@@ -47,6 +59,15 @@ pub fn sooner(next: u32, other: u32, t: u32) -> u32
 pub struct Kept {
     pub word: u32,
     pub until: u32,
+}
+
+impl Kept {
+    // It is still the word of tick t.
+    pub fn lasts(self, t: u32) -> bool
+        ensures { λ r. ⌜ r ≡ ltb t (self .until) ⌝ }
+    {
+        t < self.until
+    }
 }
 
 // No word is known yet.

@@ -49,23 +49,7 @@ at-requires-2 : tie.Need-at-requires-2 Inv-loop μ-loop
 at-requires-2 c κs = omega arith
 
 let-go-requires : tie.Need-let-go-requires Inv-loop μ-loop
-let-go-requires c κs =
-    let c4 = c .before .before .before .before in
-    let c7 = c4 .before .before .before in
-    let c8 = c7 .before in
-    let l = c4 .before .loop in
-    let x = c8 .args in
-    let pre = c8 .pre in
-    let less = c4 .loop-test .taken in (
-      omega (arith, c .before .at .ensures, pre .1 .1 (l .number) less),
-      omega (
-        arith,
-        c .at2 .ensures,
-        pre .1 .0 (l .number) less,
-        delay-lt (x .s .now) (λ i _. c7 .shared-slice-known .given i .fits)
-            (l .number),
-      ),
-    )
+let-go-requires c κs = search needs
 
 larger-requires : tie.Need-larger-requires Inv-loop μ-loop
 larger-requires c κs = search needs
@@ -83,13 +67,15 @@ loop-again c =
     let c10 = c6 .before .before .before .before in
     let l = c6 .before .loop in
     let pre = c10 .pre in
-    let x = c10 .args in (
+    let x = c10 .args in
+    let less = c6 .loop-test .taken in
+    let short = delay-lt (x .s .now) (λ i _. c6 .before .before .before .shared-slice-known .given i .fits) (l .number) in (
       omega arith,
       c .larger .ensures
           ∙ ap₂ max (l .inv .1)
           (term-reads _ _ (l .number) _ (getD (x .done .now) (l .number) 0) _ _ _ _ _ (c .before .let-go .ensures)
           (c4 .before .has .ensures) (c4 .has2 .ensures) (c .before .before .before .at .ensures)
-          (c .before .before .at2 .ensures ∙ pre .1 .0 (l .number) (c6 .loop-test .taken)))
+          (c .before .before .at2 .ensures ∙ pre .1 .0 (l .number) less) (pre .1 .1 (l .number) less) short)
           ∙ sym (greatest-next (l .number) _),
     )
 

@@ -1,21 +1,29 @@
 -- `machine::stretches::at` meets its contract: what is known lasts, or is made anew. Assumes nothing.
 use native.Mathlib.Omega.{arith}
-use mathlib.Core.Path.{sym}
+use mathlib.Core.Path.{sym, subst, _∙_}
+use lib.Dec.{T}
+use Rattle.laws.proofs.Tests.{T-ltb}
 use Rattle.machine.proofs.StretchLaws.{lasts-fresh}
 use borrow.Author.Needs.{needs}
 use Rattle.machine.proofs.stretches.at.Statement.{statement}
 use Rattle.machine.proofs.stretches.at.Tie as tie
 
+lasts-requires : tie.Need-lasts-requires
+lasts-requires c κs = search needs
+
 returns : tie.Need-returns
 returns c =
-    let known = c .before .before .pre .2 in
-    (sym (known .same (c .before .before .args .t) (omega arith) (c .if1 .taken)), known)
+    let start = c .before .before in
+    let x = start .args in
+    let known = start .pre .2 in
+    let lasts = T-ltb (x .t) (x .known .until) .0 (subst T (sym (c .if1 .taken) ∙ c .before .lasts .ensures) tt) in
+    (sym (known .same (x .t) (omega arith) lasts), known)
 
 tick-requires : tie.Need-tick-requires
 tick-requires c κs = c .before .before .pre .0
 
 next-change-requires : tie.Need-next-change-requires
-next-change-requires c κs = (c .before .before .before .pre .0, c .before .before .before .pre .1)
+next-change-requires c κs = let start = c .before .before .before in (start .pre .0, start .pre .1)
 
 next-end-requires : tie.Need-next-end-requires
 next-end-requires c κs = search needs
@@ -28,4 +36,4 @@ returns-2 c =
 
 pub at-spec : {M : Type 1} → statement M
 at-spec =
-    tie.close (tie.spec returns tick-requires next-change-requires next-end-requires returns-2)
+    tie.close (tie.spec lasts-requires returns tick-requires next-change-requires next-end-requires returns-2)
