@@ -7,7 +7,7 @@ use mathlib.Core.List.{List, [], _∷_, _++_}
 use mathlib.Core.Path.{_≡_, refl, sym, subst, ap, ap₂, _∙_}
 use lib.ListN.{getD}
 use Rattle.schedule.specs.Bounded.{table}
-use Rattle.schedule.specs.Rule.{Rule, firstBreak}
+use Rattle.schedule.specs.Rule.{firstBreak}
 use Rattle.schedule.specs.Model.{Model, temporally, byData}
 use Rattle.schedule.specs.Plan.{Plan}
 use Rattle.schedule.specs.Checks.{countOf, plainRules, strictRules}
@@ -16,17 +16,12 @@ use Rattle.laws.proofs.MachineLaws.{getD-table}
 use Rattle.laws.proofs.Sums.{greatest-ext}
 use Rattle.records.specs.declared.Pass.{Pass}
 use Rattle.records.specs.Reads.{passNumbers}
-use Rattle.records.proofs.Orders.{rulesNamed, list-stops, list-goes-on}
+use Rattle.records.proofs.Orders.{list-stops, list-goes-on}
 use Rattle.tables.specs.Columns.{TableOf}
 use Rattle.checks.specs.declared.tick.TickRule.{TickRule}
-use Rattle.checks.specs.Tables.{after, waitsFrom, finishOf, fromOf, tickRule}
+use Rattle.checks.specs.Tables.{after, waitsFrom, finishOf, fromOf}
 use Rattle.checks.specs.Rules.{activityRules, tickRules, gridRules}
 use Rattle.checks.proofs.EfeTable.{from-after}
-
--- the rules of ticks by their names
-pub ticks-named : (m : Model) (p : Plan) (order : List TickRule) → rulesNamed (λ rule. tickRule rule m p) order ≡ tickRules order m p
-ticks-named m p [] = refl
-ticks-named m p (x ∷ xs) = ap (λ (l : List Rule). tickRule x m p ∷ l) (ticks-named m p xs)
 
 -- 28 and 29, and 30 and 31
 abbrev pub plainTicks : List TickRule

@@ -2,20 +2,20 @@
 -- Assumes nothing.
 use Prim.Native.Nat.{ℕ, _+_, _<_}
 use mathlib.Core.Bool.{Bool, true, false, _&&_, not}
-use mathlib.Core.List.{List, [], _∷_, map}
+use mathlib.Core.List.{List, [], _∷_}
 use mathlib.Core.Path.{_≡_}
 use lib.Dec.{leb, ltb}
 use lib.ListN.{getD}
 use Rattle.schedule.specs.Bounded.{all, bit, wordOf, _⇒_}
-use Rattle.schedule.specs.Rule.{Rule}
+use Rattle.schedule.specs.Rule.{Rule, rulesNamed}
 use Rattle.schedule.specs.Model.{Model}
 use Rattle.schedule.specs.Plan.{Plan, active}
-use Rattle.schedule.specs.Checks.{ruleOf, rulesOf, plainRules, strictRules}
+use Rattle.schedule.specs.Checks.{ruleOf, plainRules, strictRules}
 use Rattle.schedule.specs.Answers.{plainChecks, strictChecks}
 use Rattle.schedule.specs.declared.RuleRefusal.{RuleRefusal}
 use Rattle.checks.specs.declared.activity.ActivityRule.{ActivityRule}
 use Rattle.checks.specs.declared.tick.TickRule.{TickRule}
-use Rattle.checks.specs.Tables.{tickName, Tabulated}
+use Rattle.checks.specs.Tables.{tickRule, Tabulated}
 
 abbrev pub activityName : ActivityRule → RuleRefusal
 activityName ActivityRule.Window = RuleRefusal.Window
@@ -56,11 +56,11 @@ activityOrder =
     ∷ []
 
 unfoldable pub activityRules : Model → Plan → List Rule
-activityRules m p = rulesOf (map activityName activityOrder) m p
+activityRules m p = rulesNamed (λ rule. activityRule rule m p) activityOrder
 
 -- the rules of ticks that a list names, in its order
 abbrev pub tickRules : List TickRule → Model → Plan → List Rule
-tickRules order m p = rulesOf (map tickName order) m p
+tickRules order m p = rulesNamed (λ rule. tickRule rule m p) order
 
 -- the rules of the plain or the strict check on a plan, and on two byte strings
 abbrev pub gridRules : Bool → Model → Plan → List Rule

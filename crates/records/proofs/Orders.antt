@@ -9,18 +9,13 @@ use mathlib.Core.Path.{_≡_, sym, ap, _∙_}
 use lib.ListN.{length, drop, getD, drop-of-length-le}
 use lib.Seq.{drop-cons}
 use Rattle.schedule.specs.Rule
-use Rattle.schedule.specs.Rule.{Rule, break, firstBreak}
+use Rattle.schedule.specs.Rule.{Rule, break, firstBreak, rulesNamed}
 use Rattle.schedule.specs.Numbers.{refusalNumbers}
 use Rattle.schedule.specs.declared.Refusal.{Refusal}
 use Rattle.laws.proofs.FirstBreak.{append-none, append-some}
 use Rattle.records.specs.declared.Pass.{Pass}
 use Rattle.records.specs.Reads.{passNumbers}
 use Rattle.records.proofs.Reading.{orElse, pass-refused, pass-holds, rule-next, rule-end}
-
--- the rules of a list of names, where a function gives the rule of a name
-abbrev pub rulesNamed : {N : Type 0} → (N → Rule) → List N → List Rule
-rulesNamed ruleOf [] = []
-rulesNamed ruleOf (x ∷ xs) = ruleOf x ∷ rulesNamed ruleOf xs
 
 -- what is left to be tried once k of them have been
 abbrev pub untried : {N : Type 0} → (N → Rule) → List N → ℕ → Option Rule.Refusal

@@ -2,7 +2,7 @@
 -- Assumes nothing.
 use Prim.Native.Nat.{ℕ}
 use mathlib.Core.List.{List, [], _∷_}
-use Rattle.schedule.specs.Rule.{Rule}
+use Rattle.schedule.specs.Rule.{Rule, rulesNamed}
 use Rattle.schedule.specs.Model.{Model, threadRule, activityRule, maskRule}
 use Rattle.records.specs.declared.rows.Row.{Row}
 use Rattle.records.specs.declared.model.RowRule.{RowRule}
@@ -22,9 +22,5 @@ rowAt RowRule.Masks m a = Row.Activity (activityRowOf m a)
 abbrev pub rowOrder : List RowRule
 rowOrder = RowRule.Thread ∷ RowRule.Activity ∷ RowRule.Masks ∷ []
 
-abbrev pub rulesIn : List RowRule → Model → List Rule
-rulesIn [] m = []
-rulesIn (rule ∷ rest) m = rowRule rule m ∷ rulesIn rest m
-
 unfoldable pub rowRules : Model → List Rule
-rowRules m = rulesIn rowOrder m
+rowRules m = rulesNamed (λ rule. rowRule rule m) rowOrder

@@ -8,7 +8,7 @@ use lib.Dec.{T, eqb, leb, ltb}
 use lib.ListN.{getD}
 use Rattle.schedule.specs.declared.RuleRefusal.{RuleRefusal}
 use Rattle.schedule.specs.Bounded.{all, count, greatest, ones, _⇒_}
-use Rattle.schedule.specs.Rule.{Rule}
+use Rattle.schedule.specs.Rule.{Rule, rulesNamed}
 use Rattle.schedule.specs.Model.{Model, priorityOf, temporally, byData, Within, within}
 use Rattle.schedule.specs.Timing.{deadlineRule}
 use Rattle.schedule.specs.Plan.{Plan, planTiming, active}
@@ -188,8 +188,7 @@ ruleOf RuleRefusal.Tie = rule31
 
 -- the rules that a list names, in its order
 abbrev pub rulesOf : List RuleRefusal → Model → Plan → List Rule
-rulesOf [] m p = []
-rulesOf (name ∷ names) m p = ruleOf name m p ∷ rulesOf names m p
+rulesOf names m p = rulesNamed (λ name. ruleOf name m p) names
 
 -- "The plain check ends here": rules 21 to 29, in the order in which they are tried
 abbrev pub plainOrder : List RuleRefusal

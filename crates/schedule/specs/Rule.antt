@@ -36,6 +36,11 @@ unfoldable pub firstBreak : List Rule → Option Refusal
 firstBreak [] = none
 firstBreak (r ∷ rs) = elim (break r) [ some x ↦ some x | none ↦ firstBreak rs ]
 
+-- the rules of a list of names, in its order, where a function gives the rule of a name
+abbrev pub rulesNamed : {N : Type 0} → (N → Rule) → List N → List Rule
+rulesNamed ruleOf [] = []
+rulesNamed ruleOf (x ∷ xs) = ruleOf x ∷ rulesNamed ruleOf xs
+
 -- a rule holds at each of its places
 abbrev pub Everywhere : Rule → Type 0
 Everywhere r = (a b : ℕ) → a < r .rows → b < r .columns → r .Holds a b

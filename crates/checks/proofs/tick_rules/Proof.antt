@@ -2,7 +2,7 @@
 -- Assumes nothing.
 use native.Mathlib.Omega.{arith}
 use Prim.Native.Nat.{_≤_, _-_}
-use mathlib.Core.Path.{_≡_, sym, ap, _∙_}
+use mathlib.Core.Path.{_≡_, refl, sym, _∙_}
 use lib.ListN.{length}
 use Rattle.schedule.specs.Rule.{Rule, firstBreak}
 use Rattle.schedule.specs.Model.{model}
@@ -11,7 +11,6 @@ use Rattle.records.proofs.Orders.{untried, order-stops, order-goes-on, order-en
 use Rattle.checks.specs.declared.tick.TickRule.{TickRule}
 use Rattle.checks.specs.Tables.{tickRule}
 use Rattle.checks.specs.Rules.{tickRules}
-use Rattle.checks.proofs.RuleOrder.{ticks-named}
 use borrow.Author.Needs.{needs}
 use Rattle.checks.proofs.tick_rules.Statement.{statement}
 use Rattle.checks.proofs.tick_rules.Tie as tie
@@ -25,9 +24,7 @@ abbrev μ-loop : tie.MeasureT-loop
 μ-loop s r tables order k₀ k = 2 - k
 
 loop-holds : tie.Need-loop-holds Inv-loop μ-loop
-loop-holds c =
-    let x = c .before .before .args in
-    (omega arith, c .before .before .pre .0, ap firstBreak (ticks-named (model (x .s .now)) (plan (x .r .now)) (x .t1)))
+loop-holds c = (omega arith, c .before .before .pre .0, refl)
 
 array-copy-out-rule : tie.Need-array-copy-out-rule Inv-loop μ-loop
 array-copy-out-rule c = omega arith
