@@ -1,7 +1,7 @@
--- What follows from the rules and is worth reading by itself: efe, the makespan, what it is to fail the strict check, and
--- the page through the held view.
+-- What follows from the rules and is worth reading by itself: the lengths, the deadline, efe, the makespan, what it is to fail
+-- the strict check, and the page through the held view.
 -- Assumes nothing.
-use Prim.Native.Nat.{ℕ, _+_, _≤_, _<_}
+use Prim.Native.Nat.{ℕ, _+_, _*_, _≤_, _<_}
 use native.Mathlib.Omega.{arith}
 use mathlib.Core.Bool.{Bool, true, false, cond}
 use mathlib.Core.List.{List, _++_}
@@ -13,9 +13,10 @@ use lib.ListN.{length}
 use Rattle.schedule.specs.Bounded.{greatest, least}
 use Rattle.schedule.specs.Fields.{Bytes}
 use Rattle.schedule.specs.Rule.{Refusal, FirstBroken}
-use Rattle.schedule.specs.Model.{model, modelForm}
-use Rattle.schedule.specs.Choice.{choice, choiceForm}
-use Rattle.schedule.specs.Plan.{plan, planForm, planBytes}
+use Rattle.schedule.specs.Model.{Model, model, modelForm, modelLength}
+use Rattle.schedule.specs.Timing.{Timing, InTime}
+use Rattle.schedule.specs.Choice.{choice, choiceForm, choiceLength}
+use Rattle.schedule.specs.Plan.{plan, planForm, planBytes, planLength}
 use Rattle.schedule.specs.Machine.{machineWord}
 use Rattle.schedule.specs.Checks.{efeFrom, efe, plainRules, strictRules}
 use Rattle.schedule.specs.Answers.{
@@ -48,6 +49,26 @@ use Rattle.demands.specs.Strict.{HasChoices, planWritten}
 use Rattle.demands.proofs.Demand2.{plain-accepted, plain-keeps, strict-breaks-rule, strict-passes-rules}
 use Rattle.demands.proofs.Demand3.{demand-3, back, settled-by, its-plan}
 use Rattle.demands.proofs.Page.{checked, roomy}
+
+-- ---- the paper's formulas, from the places of a record's parts
+
+-- "Length 10 + 10n + 15m"
+pub model-length : (n m : ℕ) → modelLength n m ≡ 10 + 10 * n + 15 * m
+model-length n m = refl
+
+-- "Length 7 + 4n + 2m"
+pub choice-length : (n m : ℕ) → choiceLength n m ≡ 7 + 4 * n + 2 * m
+choice-length n m = refl
+
+-- "Length 9 + 4n + 4m + 4H"
+pub plan-length : (n m H : ℕ) → planLength n m H ≡ 9 + 4 * n + 4 * m + 4 * H
+plan-length n m H = refl
+
+-- "a thread with a period has end ≤ that period"
+pub in-time-is : (m : Model) (timing : Timing) (end : ℕ → ℕ) (a : ℕ)
+    → InTime m timing end a ≡ ((¬ (timing .period (m .thread a) ≡ 0)) → end a ≤ timing .period (m .thread a))
+unfolding InTime
+in-time-is m timing end a = refl
 
 -- ---- efe
 

@@ -1,4 +1,5 @@
 // Columns of the records by activity.
+use crate::ByActivity;
 use records::model::Activity;
 ghost use mathlib.Core.Path.{_≡_};
 ghost use Prim.Native.Nat.{min};
@@ -65,7 +66,7 @@ fn entry(which: Column, s: &[u8], second: &[u8], a: Activity) -> u32
 }
 
 // A column: an entry for each activity of the model, 0 from there on.
-pub fn table(which: Column, s: &[u8], second: &[u8]) -> [u32; 32]
+pub fn table(which: Column, s: &[u8], second: &[u8]) -> ByActivity
     ensures { λ r. ⌜ r ≡ columnOf which (now (s .entry)) (now (second .entry)) ⌝ }
 {
     let n = rows(s);

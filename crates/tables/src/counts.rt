@@ -1,4 +1,5 @@
 // "count(a) is the number of words with bit a"
+use crate::ByActivity;
 ghost use mathlib.Core.Path.{_≡_};
 ghost use Prim.Native.Nat.{ℕ, _<_};
 ghost use lib.ListN.{length, getD};
@@ -22,7 +23,7 @@ fn tally(word: u32, counts: &mut [u32; 32])
 }
 
 // The counts of a plan's words, over the model's ticks: of each bit, whether or not it is an activity.
-pub fn counts(s: &[u8], r: &[u8]) -> [u32; 32]
+pub fn counts(s: &[u8], r: &[u8]) -> ByActivity
     ensures { λ x. ⌜ x ≡ table 32 (countOf (model (now (s .entry))) (plan (now (r .entry)))) ⌝ }
 {
     let sizes = records::model::counts(s);

@@ -1,4 +1,5 @@
 // Who ranks before whom: "Rank the ready by priority, highest first, then by lower activity number".
+use crate::ByActivity;
 use crate::columns;
 use crate::columns::Column;
 use records::model::Activity;
@@ -58,7 +59,7 @@ fn mask(order: Order, n: u8, priorities: &[u32; 32], a: Activity) -> u32
 }
 
 // For each activity of a model the activities that come before it, none from there on.
-pub fn masks(order: Order, s: &[u8]) -> [u32; 32]
+pub fn masks(order: Order, s: &[u8]) -> ByActivity
     ensures { λ r. ⌜ r ≡ rankingOf order (model (now (s .entry))) ⌝ }
 {
     let n = columns::rows(s);
