@@ -109,14 +109,16 @@ returns c =
     let mask =
     tick-read (x .rule) m p (x .tables .now) _ (l .inv .4) (l .inv .7) (l .t) _ _ _ _ _
     (c4 .breaking .ensures)
-    (word-read (x .r .now) _ (l .t) _ (c10 .before .before .before .words .ensures) (c4 .before .before .word .ensures)) (l .inv .3) (c7 .at .ensures .0) (l .inv .2) in
+    (word-read (x .r .now) _ (l .t) _ (c10 .before .before .before .words .ensures) (c4 .before .before .word .ensures))
+    (l .inv .3) (c7 .at .ensures .0) (l .inv .2) in
     let few = tick-columns (x .rule) m p (l .inv .4 .few) in
     c .refused .ensures
     ∙ ap (λ (k : ℕ). some (record { number = k; A = l .t; B = c .before .before .before .lowest .result }))
     (ap ruleNumber (c .before .name .ensures) ∙ tick-number (x .rule) m p)
     ∙ sym (clear-stop (tickRule (x .rule) m p) (l .t) _ (l .inv .5)
     (omega (arith, tick-rows (x .rule) m p, l .inv .1, c10 .loop-test .taken))
-    (row-stops (tickRule (x .rule) m p) (l .t) _ _ few mask (c .before .before .before .lowest .ensures) (c .before .before .if1 .taken)))
+    (row-stops (tickRule (x .rule) m p) (l .t) _ _ few mask (c .before .before .before .lowest .ensures)
+    (c .before .before .if1 .taken)))
 
 add-t : tie.Need-add-t Inv-loop μ-loop
 add-t c =

@@ -88,7 +88,8 @@ returns c =
     table-whole 32 _ (l .counted) (l .inv .3) (λ i h.
     l .inv .4 i h
     ∙ ap (λ k. count k (λ v. bit (wordIn (words .result .now) v) i)) whole
-    ∙ count-ext _ _ _ (λ v _. ap (λ (g : List ℕ). bit (wordIn g v) i) (words .ensures) ∙ ap (λ (w : ℕ). bit w i) (word-behind (x .r .now) v)))
+    ∙ count-ext _ _ _ (λ v _.
+    ap (λ (g : List ℕ). bit (wordIn g v) i) (words .ensures) ∙ ap (λ (w : ℕ). bit w i) (word-behind (x .r .now) v)))
 
 pub counts-spec : {M : Type 1} → statement M
 counts-spec =
