@@ -17,7 +17,7 @@ use lib.Pow.{pow-pos, pow-lt, pow-add, ones-sub-lt, shl-exact, shl-shr, shr-shr,
 use borrow.Author.Tests.{lt-ltb, le-ltb, eq-eqb, ne-eqb}
 use Rattle.schedule.specs.Bounded.{bit, count, lowest, ones, wordOf}
 use Rattle.laws.proofs.Counting.{T-false, count-suc, count-zero, weight}
-use Rattle.laws.proofs.Lowest.{Lowest, lowest-is, lowest-unique}
+use Rattle.laws.proofs.Lowest.{Lowest, lowest-same}
 use Rattle.laws.proofs.Words.{bit-high, bit-wordOf, word-ext, wordOf-lt}
 use Rattle.bits.specs.WithBit.{withBit, withoutBit}
 
@@ -247,18 +247,6 @@ unfolding ones
 ones-digits w h = ap digits.ones (sym (mod-eq-of-lt h)) ∙ digits-count w 32
 
 -- ---- the lowest bit of a word
-
-pub lowest-same : (n : ℕ) (p : ℕ → Bool) (i : ℕ) → Lowest n p i → i ≡ lowest n p
-lowest-same n p i h =
-    elim (decLt i n) [
-      | yes l ↦ sym (lowest-unique n p i l (h .found l) (h .none-below))
-      | no l ↦
-          let low = lowest-is n p in
-          elim (decLt (lowest n p) n) [
-            | yes k ↦ absurd (h .none-below (lowest n p) (omega (arith, h .bound)) (low .found k))
-            | no k ↦ omega (arith, h .bound, low .bound)
-          ]
-    ]
 
 -- bit j + 1 of a word is bit j of its half
 bit-half : (w j : ℕ) → bit w (suc j) ≡ bit (w / 2) j

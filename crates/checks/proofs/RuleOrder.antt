@@ -73,7 +73,7 @@ module _ (m : Model) (p : Plan) where
 
   -- the counts of a model's activities
   pub count-table : (counted : List ℕ) → m .activities ≤ 32 → counted ≡ table 32 (countOf m p) → TableOf m counted (countOf m p)
-  count-table counted few e a l = ap (λ (x : List ℕ). getD x a 0) e ∙ getD-table 32 (countOf m p) a (omega arith)
+  count-table counted few e a l = ap (λ (x : List ℕ). getD x a 0) e ∙ getD-table 0 32 (countOf m p) a (omega arith)
 
   -- the ticks from which activities can wait, from the other tables
   pub from-tables : (counted ended done opened : List ℕ) → TableOf m counted (countOf m p) → TableOf m ended (p .end)

@@ -16,10 +16,10 @@ use Rattle.schedule.specs.Machine.{owes, endOf, ready, selected, machineWord, m
 use Rattle.schedule.specs.Checks.{countOf, efe, Waiting, Window}
 use Rattle.schedule.specs.Keeps.{KeepsStrict}
 use Rattle.laws.proofs.Counting.{count-ext, count-none, count-stops, count-span}
-use Rattle.laws.proofs.Words.{bit-high, ones-count}
 use Rattle.laws.proofs.Selection.{Before, selected-few, selected-all, selected-first}
 use Rattle.laws.proofs.Lowest.{lowest-is, lowest-found}
-use Rattle.laws.proofs.MachineLaws.{Ready, ready-sound, at, runs, runs-selected, runs-ready, word-lt, owed-done, stays, Ended, ended}
+use Rattle.laws.proofs.MachineLaws.{Ready, ready-sound, at, runs, runs-selected, runs-ready, ones-runs, runs-duration}
+use Rattle.laws.proofs.MachineLaws.{owed-done, stays, Ended, ended}
 use Rattle.laws.proofs.EfeLaws.{efe-release, efe-bound}
 
 -- A plan that keeps its window has its active ticks inside it, so rule 24 follows from rule 21.
@@ -58,10 +58,10 @@ module _ (m : Model) (release duration : ℕ → ℕ) (p : Plan) (made : Made m 
 
   -- count(a) is the duration
   pub counted : (a : ℕ) → a < m .activities → countOf m p a ≡ duration a
-  unfolding countOf machineOwes
+  unfolding countOf
   counted a l =
       count-ext (m .horizon) (λ t. active p t a) (λ t. runs m release duration t a) (λ t h. same-bit t a h)
-      ∙ omega (arith, owed-done m release duration (m .horizon) a l, settled a l)
+      ∙ runs-duration m release duration a l (settled a l)
 
   -- what the machine's end of an activity says
   at-end : (a : ℕ) → a < m .activities → Ended m release duration (m .horizon) a
@@ -151,8 +151,7 @@ module _ (m : Model) (release duration : ℕ → ℕ) (p : Plan) (made : Made m 
       → ones (p .word t) ≡ count (m .activities) (selected m (ready m release t (at m release duration t)))
   ones-selected t h =
       ap ones (made .words t h)
-      ∙ ones-count (machineWord m release duration t) (m .activities) few
-      (λ b _ l. bit-high (machineWord m release duration t) (m .activities) b (word-lt m release duration t) l)
+      ∙ ones-runs m release duration few t
       ∙ count-ext (m .activities) (λ a. runs m release duration t a) (selected m (ready m release t (at m release duration t)))
       (λ a l. runs-selected m release duration t a l)
 

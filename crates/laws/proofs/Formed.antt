@@ -4,14 +4,17 @@ use Prim.Native.Nat.{ℕ, _+_, _<_}
 use native.Mathlib.Decide.{decLt}
 use native.Mathlib.Omega.{arith}
 use mathlib.Core.List.{List}
+use mathlib.Core.Option.{none}
+use mathlib.Core.Path.{_≡_}
 use Rattle.schedule.specs.declared.FormRefusal.{FormRefusal}
 use Rattle.schedule.specs.Fields.{Bytes}
-use Rattle.schedule.specs.Rule.{AllHold}
+use Rattle.schedule.specs.Rule.{firstBreak, AllHold}
 use Rattle.schedule.specs.Model.{Model, model, modelForm, Within, Formed}
 use Rattle.schedule.specs.Choice.{Choice, choice, choiceThreadRow, choiceForm}
 use Rattle.schedule.specs.Numbers.{formNumber}
 use Rattle.laws.proofs.FieldLaws.{field-lt}
-use Rattle.laws.proofs.FirstBreak.{says}
+use Rattle.laws.proofs.FirstBreak.{says, none-iff}
+use Rattle.laws.proofs.Sound.{modelForm-sound}
 use Rattle.laws.proofs.Opened.{form-rules}
 
 -- rules 3, 6 and 7
@@ -38,6 +41,10 @@ model-says s h =
         ];
       };
     }
+
+-- where no form rule is broken
+pub form-holds : (s : List ℕ) → firstBreak (modelForm s) ≡ none → Formed (model s)
+form-holds s e = model-says s (none-iff (modelForm s) (modelForm-sound s) .0 e)
 
 -- rules 12 and 13, and that the choices are fields of two bytes
 pub record Chosen (m : Model) (q : Choice) : Type 0 where

@@ -4,35 +4,42 @@ use Prim.Native.Nat.{ℕ, zero, suc, _+_, _-_, _≤_, _<_, _^_}
 use native.Mathlib.Numerals.{add-one}
 use native.Mathlib.Omega.{arith}
 use mathlib.Core.Bool.{Bool, _&&_, cond}
-use mathlib.Core.List.{[], _∷_, _++_}
+use mathlib.Core.List.{List, [], _∷_, _++_}
 use mathlib.Core.Logic.{_⊎_, ⊎-elim, _↔_}
-use mathlib.Core.Path.{_≡_, refl, sym, subst, ap, _∙_}
+use mathlib.Core.Path.{_≡_, refl, sym, subst, ap, ap₂, _∙_}
 use lib.Dec.{T, eqb}
 use lib.ListN.{length, getD, length-append, List·getD-append}
 use lib.Seq.{getD-at}
 use borrow.Author.Tests.{eq-eqb}
-use Rattle.schedule.specs.Bounded.{count, table, bit}
+use Rattle.schedule.specs.Bounded.{count, table, bit, ones}
 use Rattle.schedule.specs.Model.{Model, temporally, byData}
-use Rattle.schedule.specs.Machine.{State, owes, endOf, endedBy, ready, selected, wordAt, initial, step, stateAt, machineWord}
+use Rattle.schedule.specs.Machine.{State, owes, endOf, endedBy, ready, selected, wordAt, initial, step, stateAt}
+use Rattle.schedule.specs.Machine.{machineWord, machineOwes}
 use Rattle.laws.proofs.Tests.{tests, below-suc}
 use Rattle.laws.proofs.Counting.{decT, T-true, T-false, weight, one-if, zero-if, count-suc, count-zero}
-use Rattle.laws.proofs.Words.{bit-wordOf, wordOf-lt}
+use Rattle.laws.proofs.Words.{bit-wordOf, wordOf-lt, bit-high, ones-count}
 
-pub length-table : (n : ℕ) (f : ℕ → ℕ) → length (table n f) ≡ n
+pub length-table : {A : Type 0} (n : ℕ) (f : ℕ → A) → length (table n f) ≡ n
 unfolding table
 length-table zero f = refl
 length-table (suc n) f = length-append (table n f) (f n ∷ []) ∙ ap (λ (k : ℕ). k + 1) (length-table n f) ∙ add-one n
 
-pub getD-table : (n : ℕ) (f : ℕ → ℕ) (i : ℕ) → i < n → getD (table n f) i 0 ≡ f i
+pub getD-table : {A : Type 0} (d : A) (n : ℕ) (f : ℕ → A) (i : ℕ) → i < n → getD (table n f) i d ≡ f i
 unfolding table
-getD-table zero f i h = absurd (omega arith)
-getD-table (suc n) f i h = ⊎-elim (lower (getD-table n f i)) here (below-suc i n h)
+getD-table d zero f i h = absurd (omega arith)
+getD-table d (suc n) f i h = ⊎-elim (lower (getD-table d n f i)) here (below-suc i n h)
   where
-    lower : (i < n → getD (table n f) i 0 ≡ f i) → i < n → getD (table n f ++ (f n ∷ [])) i 0 ≡ f i
-    lower ih l = List·getD-append (table n f) (f n ∷ []) 0 i (omega (arith, length-table n f)) ∙ ih l
+    lower : (i < n → getD (table n f) i d ≡ f i) → i < n → getD (table n f ++ (f n ∷ [])) i d ≡ f i
+    lower ih l = List·getD-append (table n f) (f n ∷ []) d i (omega (arith, length-table n f)) ∙ ih l
 
-    here : i ≡ n → getD (table n f ++ (f n ∷ [])) i 0 ≡ f i
-    here e = getD-at (table n f) (f n) [] 0 i (length-table n f ∙ sym e) ∙ ap f (sym e)
+    here : i ≡ n → getD (table n f ++ (f n ∷ [])) i d ≡ f i
+    here e = getD-at (table n f) (f n) [] d i (length-table n f ∙ sym e) ∙ ap f (sym e)
+
+pub table-ext : {A : Type 0} (n : ℕ) (f g : ℕ → A) → ((i : ℕ) → i < n → f i ≡ g i) → table n f ≡ table n g
+unfolding table
+table-ext zero f g h = refl
+table-ext {A} (suc n) f g h =
+    ap₂ (λ (l : List A) (x : A). l ++ (x ∷ [])) (table-ext n f g (λ i l. h i (omega arith))) (h n (omega arith))
 
 -- "ready", as a statement
 pub record Ready (m : Model) (release : ℕ → ℕ) (t : ℕ) (s : State) (a : ℕ) : Type 0 where
@@ -72,16 +79,16 @@ module _ (m : Model) (release duration : ℕ → ℕ) where
 
   pub owes-first : (a : ℕ) → a < m .activities → owes (at 0) a ≡ duration a
   unfolding stateAt initial
-  owes-first a l = getD-table (m .activities) duration a l
+  owes-first a l = getD-table 0 (m .activities) duration a l
 
   pub owes-next : (t a : ℕ) → a < m .activities → owes (at (suc t)) a ≡ owes (at t) a - weight (runs t a)
   unfolding stateAt step machineWord
-  owes-next t a l = getD-table (m .activities) _ a l
+  owes-next t a l = getD-table 0 (m .activities) _ a l
 
   pub end-next : (t a : ℕ) → a < m .activities
       → endOf (at (suc t)) a ≡ cond (runs t a && eqb (owes (at t) a) 1) (t + 1) (endOf (at t) a)
   unfolding stateAt step machineWord
-  end-next t a l = getD-table (m .activities) _ a l
+  end-next t a l = getD-table 0 (m .activities) _ a l
 
   -- the active are the selected
   pub runs-selected : (t a : ℕ) → a < m .activities → runs t a ≡ selected m (ready m release t (at t)) a
@@ -91,6 +98,12 @@ module _ (m : Model) (release duration : ℕ → ℕ) where
   pub word-lt : (t : ℕ) → machineWord m release duration t < 2 ^ m .activities
   unfolding machineWord wordAt
   word-lt t = wordOf-lt (m .activities) (selected m (ready m release t (at t)))
+
+  -- a tick's ones are the activities that run
+  pub ones-runs : m .activities ≤ 32 → (t : ℕ) → ones (machineWord m release duration t) ≡ count (m .activities) (runs t)
+  ones-runs few t =
+      let w : ℕ = machineWord m release duration t in
+      ones-count w (m .activities) few (λ b _ l. bit-high w (m .activities) b (word-lt t) l)
 
   pub runs-ready : (t a : ℕ) → a < m .activities → T (runs t a) → Ready m release t (at t) a
   unfolding selected
@@ -114,6 +127,12 @@ module _ (m : Model) (release duration : ℕ → ℕ) where
       ))
       (λ x. omega (arith, owed-done t a l, owes-next t a l, count-suc t (λ u. runs u a), zero-if (runs t a) x))
       (decT (runs t a))
+
+  -- an activity that owes nothing at the end has run for its duration
+  pub runs-duration : (a : ℕ) → a < m .activities → machineOwes m release duration a ≡ 0
+      → count (m .horizon) (λ t. runs t a) ≡ duration a
+  unfolding machineOwes
+  runs-duration a l settled = omega (arith, owed-done (m .horizon) a l)
 
   -- an activity that does not run keeps its end
   pub end-idle : (t a : ℕ) → a < m .activities → (¬ T (runs t a)) → endOf (at (suc t)) a ≡ endOf (at t) a

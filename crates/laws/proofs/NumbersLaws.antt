@@ -1,11 +1,10 @@
 -- Equal numbers and values mean equal answers: each map of crate schedule's Numbers is undone by a map back.
 -- Assumes nothing.
-use Prim.Native.Nat.{ℕ, _-_}
+use Prim.Native.Nat.{ℕ}
 use mathlib.Core.Bool.{cond}
-use mathlib.Core.List.{List, [], _∷_}
+use mathlib.Core.List.{List, [], _∷_, _++_, map}
 use mathlib.Core.Path.{_≡_, refl, sym, ap, _∙_}
-use lib.Dec.{eqb, ltb}
-use lib.ListN.{getD}
+use lib.Dec.{eqb}
 use Rattle.schedule.specs.declared.Place.{Place}
 use Rattle.schedule.specs.declared.FormRefusal.{FormRefusal}
 use Rattle.schedule.specs.declared.RuleRefusal.{RuleRefusal}
@@ -20,7 +19,7 @@ use Rattle.schedule.specs.declared.FormRefusal.the-variants.{SecondVersion, Sec
 use Rattle.schedule.specs.declared.FormRefusal.the-variants.{ThreadChoice, DurationChoice, WordBits}
 use Rattle.schedule.specs.declared.RuleRefusal.the-variants.{Window, Count, Deadline, Span, Temporal, Data}
 use Rattle.schedule.specs.declared.RuleRefusal.the-variants.{Eligible, Cores, Preemption, Idle, Tie}
-use Rattle.schedule.specs.declared.RunRefusal.the-variants.{Room, Owed, Late}
+use Rattle.schedule.specs.declared.RunRefusal.the-variants.{Room, Owed, Late, Rows}
 use Rattle.schedule.specs.Rule
 use Rattle.schedule.specs.Checks.{strictOrder}
 use Rattle.schedule.specs.Answers
@@ -34,27 +33,30 @@ undone-injective : {X Y : Type 0} (f : X → Y) (g : Y → X) → ((x : X) → g
     → (x y : X) → f x ≡ f y → x ≡ y
 undone-injective f g undone x y e = sym (undone x) ∙ ap g e ∙ undone y
 
--- the cases in the order of their numbers
+-- the cases of form and of the run; those of the rules are the strict check's
 abbrev forms : List FormRefusal
 forms =
     ModelSize ∷ ModelVersion ∷ ModelLimits ∷ ModelFormula ∷ ThreadRow ∷ ActivityRow ∷ MaskRow ∷ SecondSize
     ∷ SecondVersion ∷ SecondCounts ∷ SecondFormula ∷ ThreadChoice ∷ DurationChoice ∷ WordBits ∷ []
 
 abbrev runs : List RunRefusal
-runs = Room ∷ Owed ∷ Late ∷ []
+runs = Room ∷ Owed ∷ Late ∷ Rows ∷ []
 
--- the rule of an order that has a number
-abbrev numbered : ℕ → List RuleRefusal → RuleRefusal
-numbered number [] = Window
-numbered number (x ∷ xs) = cond (eqb (ruleNumber x) number) x (numbered number xs)
+-- every refusal that there is, still without its place
+abbrev refusals : List (Place → Refusal)
+refusals =
+    map (λ (why : FormRefusal) (at : Place). Refusal.Form why at) forms
+    ++ (map (λ (why : RuleRefusal) (at : Place). Refusal.Rule why at) strictOrder
+    ++ map (λ (why : RunRefusal) (at : Place). Refusal.Run why at) runs)
 
--- a refusal from its number and place: 1 to 14 are of form, 21 to 31 rules, 41 to 43 of the run
+-- the one of a list that has a number
+abbrev numbered : ℕ → Place → List (Place → Refusal) → Refusal
+numbered number at [] = Refusal.Form ModelSize at
+numbered number at (x ∷ xs) = cond (eqb (refusalNumbers (x at) .number) number) (x at) (numbered number at xs)
+
+-- a refusal from its number and place
 abbrev refusalOf : Rule.Refusal → Refusal
-refusalOf x =
-    let at : Place = record { a = x .A; b = x .B } in
-    cond (ltb (x .number) 21) (Refusal.Form (getD forms (x .number - 1) ModelSize) at)
-    (cond (ltb (x .number) 41) (Refusal.Rule (numbered (x .number) strictOrder) at)
-    (Refusal.Run (getD runs (x .number - 41) Room) at))
+refusalOf x = numbered (x .number) (record { a = x .A; b = x .B }) refusals
 
 form-undone : (why : FormRefusal) (at : Place) → refusalOf (refusalNumbers (Refusal.Form why at)) ≡ Refusal.Form why at
 form-undone ModelSize at = refl
@@ -89,6 +91,7 @@ run-undone : (why : RunRefusal) (at : Place) → refusalOf (refusalNumbers (Refu
 run-undone Room at = refl
 run-undone Owed at = refl
 run-undone Late at = refl
+run-undone Rows at = refl
 
 refusal-undone : (x : Refusal) → refusalOf (refusalNumbers x) ≡ x
 refusal-undone (Refusal.Form why at) = form-undone why at

@@ -32,6 +32,10 @@ module _ (q : List ℕ) (h : Bytes q) where
   unfolding choice
   chosen-period-lt j = field-lt q h _ 2
 
+  pub chosen-duration-lt : (a : ℕ) → choice q .duration a < 65536
+  unfolding choice
+  chosen-duration-lt a = field-lt q h _ 2
+
 -- of a plan
 module _ (r : List ℕ) (h : Bytes r) where
   pub release-lt : (j : ℕ) → plan r .release j < 65536

@@ -1,15 +1,16 @@
 -- A rule tried row by row: what a loop over its rows knows, and what a row answers.
 -- Assumes nothing.
-use Prim.Native.Nat.{ℕ, _+_, _<_}
+use Prim.Native.Nat.{ℕ, _+_, _≤_, _<_}
 use native.Mathlib.Omega.{arith}
-use mathlib.Core.Bool.{Bool, cond}
+use mathlib.Core.Bool.{Bool, not, cond}
 use mathlib.Core.Option.{Option, some, none}
-use mathlib.Core.Path.{_≡_, ap}
+use mathlib.Core.Path.{_≡_, sym, subst, ap}
 use lib.Dec.{T}
 use Rattle.schedule.specs.Bounded.{first}
 use Rattle.schedule.specs.Rule.{Rule, Refusal, break}
-use Rattle.laws.proofs.Tests.{up-to}
+use Rattle.laws.proofs.Tests.{up-to, T-not, T-not-not}
 use Rattle.laws.proofs.Counting.{T-true, T-false}
+use Rattle.laws.proofs.Lowest.{Lowest}
 use Rattle.laws.proofs.FirstBreak.{first-none, first-some}
 
 -- the refusal of a rule at a place
@@ -66,3 +67,23 @@ row-broken r a b l h f =
         earlier = λ j k. passed (r .test a j) (refusalAt r a j) (h j k);
       },
     )
+
+-- ---- a rule of one column, from the lowest row that breaks it
+
+module _ (r : Rule) (one : r .columns ≡ 1) (i : ℕ) (low : Lowest (r .rows) (λ a. not (r .test a 0)) i) where
+  clear-rows : ClearTo r i
+  unfolding ClearTo
+  clear-rows a l =
+      row-clear r a (λ b k.
+      let z : b ≡ 0 = omega (arith, one) in
+      subst (λ (x : ℕ). T (r .test a x)) (sym z) (T-not-not (r .test a 0) (low .none-below a l)))
+
+  pub break-at : i < r .rows → break r ≡ some (refusalAt r i 0)
+  break-at l =
+      clear-stop r i (refusalAt r i 0) clear-rows l
+      (row-broken r i 0 (omega (arith, one)) (λ j k. absurd (omega arith)) (T-not (r .test i 0) .0 (low .found l)))
+
+  pub break-none-at : r .rows ≤ i → break r ≡ none
+  break-none-at l =
+      let e : i ≡ r .rows = omega (arith, low .bound) in
+      clear-end r (subst (λ (k : ℕ). ClearTo r k) e clear-rows)

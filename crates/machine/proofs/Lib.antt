@@ -1,3 +1,4 @@
+pub mod EndingLaws
 pub mod MaskLaws
 pub mod PlayLaws
 pub mod StretchLaws

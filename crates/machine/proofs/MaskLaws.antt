@@ -172,8 +172,8 @@ pub keeps-first : (m : Model) (release duration : ℕ → ℕ) (owed ends : List
     → Keeps m (stateAt m release duration 0) owed ends
 unfolding stateAt initial
 keeps-first m release duration owed ends h k = record {
-  owed-ticks = λ a l. h a l ∙ sym (getD-table (m .activities) duration a l);
-  end-ticks = λ a l. k a l ∙ sym (getD-table (m .activities) (λ _. 0) a l);
+  owed-ticks = λ a l. h a l ∙ sym (getD-table 0 (m .activities) duration a l);
+  end-ticks = λ a l. k a l ∙ sym (getD-table 0 (m .activities) (λ _. 0) a l);
 }
 
 -- after a tick with the machine's word

@@ -6,24 +6,31 @@ use native.Mathlib.Numerals.{add-one}
 use native.Mathlib.Omega.{arith}
 use mathlib.Core.Bool.{Bool, true, false, _&&_, cond}
 use mathlib.Core.List.{List}
+use mathlib.Core.Option.{Option, none}
 use mathlib.Core.Path.{_≡_, refl, sym, subst, ap, ap₂, _∙_}
 use lib.Dec.{eqb}
 use lib.ListN.{length, getD, replicate, List·getD-eq-default}
 use borrow.Author.Tests.{le-leb, lt-leb}
 use Rattle.schedule.specs.Bounded.{bit, chain}
 use Rattle.schedule.specs.Fields.{bytes}
-use Rattle.schedule.specs.Model.{Model}
+use Rattle.schedule.specs.Rule.{Refusal, firstBreak}
+use Rattle.schedule.specs.Model.{Model, Formed}
 use Rattle.schedule.specs.Choice.{Choice}
 use Rattle.schedule.specs.Plan.{tickAt, ticksIn}
 use Rattle.schedule.specs.Machine.{stateAt, machineWord, machineEnd, machineOwes}
+use Rattle.schedule.specs.Answers.{runRules}
 use Rattle.laws.proofs.FieldLaws.{length-bytes, length-chain}
 use Rattle.laws.proofs.Steps.{zeros-at}
 use Rattle.fields.specs.Put.{put}
 use Rattle.fields.proofs.PutLaws.{put-nil, put-next, put-out, length-put}
+use Rattle.records.specs.declared.Pass.{Pass}
+use Rattle.records.specs.Reads.{passNumbers}
 use Rattle.tables.specs.Columns.{byActivity}
 use Rattle.tables.proofs.TableLaws.{by-table, by-beyond, length-by, table-by}
 use Rattle.machine.specs.Masks.{tickWord, Tabled, Keeps, Stepped}
-use Rattle.machine.specs.Played.{gridBytes, writtenGrid, playedOwed, playedEnds, playedGrid, Finished}
+use Rattle.machine.specs.Ending.{Stopped}
+use Rattle.machine.specs.Played.{gridBytes, writtenGrid, playedEnds, playedRefusal, playedGrid}
+use Rattle.machine.specs.Played.{Finished, Ended}
 use Rattle.machine.proofs.MaskLaws.{tick-is, keeps-first, keeps-next, stepped-fewer}
 
 -- ---- the words in the grid
@@ -150,25 +157,53 @@ module _ (m : Model) (q : Choice) (grid₀ grid owed ends : List ℕ) (t : ℕ) 
   pub running-length : length grid ≡ length grid₀
   running-length = ap length (h .written) ∙ length-put 0 (gridBytes m q (min t (ticksIn grid₀))) grid₀
 
+-- the tables hold what the machine leaves
+pub finished-stopped : (m : Model) (q : Choice) (grid grid′ owed ends : List ℕ) → m .activities ≤ 32
+    → Finished m q grid grid′ owed ends → Stopped m q owed ends
+finished-stopped m q grid grid′ owed ends few h = record {
+  few = few;
+  owed-ticks = by-table m _ owed few (h .owed-ticks);
+  end-ticks = by-table m _ ends few (h .end-ticks);
+}
+
 -- ---- played or not
 
-module _ (m : Model) (q : Choice) (grid grid′ owed ends : List ℕ) where
-  pub played : m .activities ≤ 32 → Finished m q grid grid′ owed ends
-      → (owed ≡ playedOwed m q) × (ends ≡ playedEnds m q) × (grid′ ≡ playedGrid m q grid)
-  unfolding playedOwed playedEnds playedGrid
-  played few h =
+-- the ends, the refusal and the grid that a call answers and leaves
+abbrev Says : Model → Choice → List ℕ → List ℕ → List ℕ → Option Refusal → Type 0
+Says m q grid grid′ ends judged =
+    (ends ≡ playedEnds m q) × (judged ≡ playedRefusal m q) × (grid′ ≡ playedGrid m q grid)
+
+module _ (m : Model) (q : Choice) (grid grid′ owed ends : List ℕ) (judged : Option Refusal) where
+  pub played : m .activities ≤ 32 → Finished m q grid grid′ owed ends → judged ≡ firstBreak (runRules m q)
+      → Says m q grid grid′ ends judged
+  unfolding playedEnds playedRefusal playedGrid
+  played few h j =
       let yes? = le-leb (m .activities) 32 few in (
-        h .owed-ticks ∙ sym (ap (λ (t : Bool). cond t (byActivity m (machineOwes m (q .release) (q .duration))) (replicate 32 0)) yes?),
         h .end-ticks ∙ sym (ap (λ (t : Bool). cond t (byActivity m (machineEnd m (q .release) (q .duration))) (replicate 32 0)) yes?),
+        j ∙ sym (ap (λ (t : Bool). cond t (firstBreak (runRules m q)) none) yes?),
         h .written ∙ sym (ap (λ (t : Bool). cond t (writtenGrid m q (m .horizon) grid) grid) yes?),
       )
 
-  pub unplayed : 32 < m .activities → owed ≡ replicate 32 0 → ends ≡ replicate 32 0 → grid′ ≡ grid
-      → (owed ≡ playedOwed m q) × (ends ≡ playedEnds m q) × (grid′ ≡ playedGrid m q grid)
-  unfolding playedOwed playedEnds playedGrid
-  unplayed many o e g =
+module _ (m : Model) (q : Choice) (grid grid′ ends : List ℕ) (judged : Option Refusal) where
+  pub unplayed : 32 < m .activities → ends ≡ replicate 32 0 → judged ≡ none → grid′ ≡ grid → Says m q grid grid′ ends judged
+  unfolding playedEnds playedRefusal playedGrid
+  unplayed many e j g =
       let no? = lt-leb (m .activities) 32 many in (
-        o ∙ sym (ap (λ (t : Bool). cond t (byActivity m (machineOwes m (q .release) (q .duration))) (replicate 32 0)) no?),
         e ∙ sym (ap (λ (t : Bool). cond t (byActivity m (machineEnd m (q .release) (q .duration))) (replicate 32 0)) no?),
+        j ∙ sym (ap (λ (t : Bool). cond t (firstBreak (runRules m q)) none) no?),
         g ∙ sym (ap (λ (t : Bool). cond t (writtenGrid m q (m .horizon) grid) grid) no?),
       )
+
+-- what it promises of a model that meets its form rules
+pub played-ended : (m : Model) (q : Choice) (judged : Pass) (ends : List ℕ) → Formed m
+    → ends ≡ playedEnds m q → passNumbers judged ≡ playedRefusal m q → Ended m q judged ends
+unfolding playedEnds playedRefusal
+played-ended m q judged ends formed e j =
+    let few = formed .activities .1 in
+    let yes? = le-leb (m .activities) 32 few in
+    record {
+      formed = formed;
+      refusal = j ∙ ap (λ (t : Bool). cond t (firstBreak (runRules m q)) none) yes?;
+      end-ticks = by-table m _ ends few
+          (e ∙ ap (λ (t : Bool). cond t (byActivity m (machineEnd m (q .release) (q .duration))) (replicate 32 0)) yes?);
+    }

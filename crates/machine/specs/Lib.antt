@@ -1,3 +1,4 @@
+pub mod Ending
 pub mod Masks
 pub mod Played
 pub mod Stretches

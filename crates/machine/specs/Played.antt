@@ -1,19 +1,24 @@
--- What is left when the machine has been played: what is owed and the ends by activity, and the words in a grid.
+-- What is left when the machine has been played: the ends by activity, the refusal of 42 and 43, and the words in a grid.
 -- Assumes nothing.
 use Prim.Native.Nat.{ℕ, min}
 use mathlib.Core.Bool.{Bool, cond}
 use mathlib.Core.List.{List}
+use mathlib.Core.Option.{Option, none}
 use mathlib.Core.Path.{_≡_}
 use lib.Dec.{leb}
 use lib.ListN.{replicate}
 use Rattle.schedule.specs.Bounded.{chain}
 use Rattle.schedule.specs.Fields.{bytes}
-use Rattle.schedule.specs.Model.{Model}
+use Rattle.schedule.specs.Rule.{Refusal, firstBreak}
+use Rattle.schedule.specs.Model.{Model, Formed}
 use Rattle.schedule.specs.Choice.{Choice}
 use Rattle.schedule.specs.Plan.{ticksIn}
 use Rattle.schedule.specs.Machine.{machineWord, machineEnd, machineOwes}
+use Rattle.schedule.specs.Answers.{runRules}
 use Rattle.fields.specs.Put.{put}
-use Rattle.tables.specs.Columns.{byActivity}
+use Rattle.records.specs.declared.Pass.{Pass}
+use Rattle.records.specs.Reads.{passNumbers}
+use Rattle.tables.specs.Columns.{TableOf, byActivity}
 
 -- the machine's words of the first k ticks, 4 bytes each
 unfoldable pub gridBytes : Model → Choice → ℕ → List ℕ
@@ -23,13 +28,13 @@ gridBytes m q k = chain k (λ t. bytes 4 (machineWord m (q .release) (q .duratio
 abbrev pub playable : Model → Bool
 playable m = leb (m .activities) 32
 
--- the ticks still owed by each activity, all 0 where the machine is not played
-unfoldable pub playedOwed : Model → Choice → List ℕ
-playedOwed m q = cond (playable m) (byActivity m (machineOwes m (q .release) (q .duration))) (replicate 32 0)
-
--- the ends
+-- the ends of the activities, all 0 where the machine is not played
 unfoldable pub playedEnds : Model → Choice → List ℕ
 playedEnds m q = cond (playable m) (byActivity m (machineEnd m (q .release) (q .duration))) (replicate 32 0)
+
+-- the first break of 42 and 43, none where the machine is not played
+unfoldable pub playedRefusal : Model → Choice → Option Refusal
+playedRefusal m q = cond (playable m) (firstBreak (runRules m q)) none
 
 -- a grid with the words of the ticks for which it has room
 abbrev pub writtenGrid : Model → Choice → ℕ → List ℕ → List ℕ
@@ -44,3 +49,9 @@ pub record Finished (m : Model) (q : Choice) (grid grid′ owed ends : List ℕ)
   pub written : grid′ ≡ writtenGrid m q (m .horizon) grid
   pub owed-ticks : owed ≡ byActivity m (machineOwes m (q .release) (q .duration))
   pub end-ticks : ends ≡ byActivity m (machineEnd m (q .release) (q .duration))
+
+-- The same of a model that meets its form rules: the refusal is that of 42 and 43, and the table holds the machine's ends.
+pub record Ended (m : Model) (q : Choice) (judged : Pass) (ends : List ℕ) : Type 0 where
+  pub formed : Formed m
+  pub refusal : passNumbers judged ≡ firstBreak (runRules m q)
+  pub end-ticks : TableOf m ends (machineEnd m (q .release) (q .duration))

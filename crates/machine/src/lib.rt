@@ -1,7 +1,9 @@
 // "The run, as a plain machine": it plays the machine of a model and a choice, with a page or without one.
+mod ending;
 mod stretches;
 mod tick;
 
+use records::Pass;
 use tables::columns::Column;
 use tables::ranking::Order;
 use tick::Tables;
@@ -10,12 +12,19 @@ ghost use Prim.Native.Nat.{_≤_};
 ghost use Rattle.schedule.specs.Model.{model};
 ghost use Rattle.schedule.specs.Choice.{choice};
 ghost use Rattle.machine.specs.Masks.{Tabled};
-ghost use Rattle.machine.specs.Played.{Finished, playedOwed, playedEnds, playedGrid};
+ghost use Rattle.records.specs.Reads.{passNumbers};
+ghost use Rattle.machine.specs.Played.{Finished, playedEnds, playedRefusal, playedGrid};
 
-// What the machine leaves at H: the ticks still owed and the ends, by activity.
+// The machine's state: "for each activity the ticks still owed, and its end once nothing is owed".
+struct State {
+    owed: [u32; 32],
+    ends: [u32; 32],
+}
+
+// How the machine ends: the ends by activity, and the refusal of 42 and 43, or that there is none.
 pub struct Played {
-    pub owed: [u32; 32],
     pub ends: [u32; 32],
+    pub judged: Pass,
 }
 
 // What the machine needs of a model and the chosen releases, by activity.
@@ -33,7 +42,7 @@ fn tabulate(s: &[u8], q: &[u8]) -> Tables
 
 // "At the beginning t = 0 and each activity owes its chosen duration. .. Then t grows by one; stop at H." The words of the
 // ticks for which the grid has room are written into it.
-fn play_ticks(s: &[u8], q: &[u8], tables: &Tables, grid: &mut [u8]) -> Played
+fn play_ticks(s: &[u8], q: &[u8], tables: &Tables, grid: &mut [u8]) -> State
     requires { ⌜ Tabled (model (now s)) (choice (now q) .release) (now tables) ⌝ }
     ensures { λ r. ⌜ Finished (model (now (s .entry))) (choice (now (q .entry))) (now (grid .entry)) (now (grid .exit))
         (r .owed) (r .ends) ⌝ }
@@ -52,24 +61,28 @@ fn play_ticks(s: &[u8], q: &[u8], tables: &Tables, grid: &mut [u8]) -> Played
         records::grid::put_word(grid, t, kept.word);
         t += 1;
     }
-    Played { owed, ends }
+    State { owed, ends }
 }
 
-// Plays the machine of a model and a choice of any bytes, into a grid of any length: an empty one where no page is wanted. A
-// model of more activities than a word has bits is not played, and both tables are 0 then, as if nothing were owed; none that
-// meets its form rules has so many.
+// Plays the machine of a model and a choice of any bytes, into a grid of any length: an empty one where no page is wanted.
+// "The run succeeds if nothing is owed and each end keeps the deadline (rule 23)." A model of more activities than a word has
+// bits is not played, and every end is 0 then, with no refusal; none that meets its form rules has so many.
 pub fn play(s: &[u8], q: &[u8], grid: &mut [u8]) -> Played
-    ensures { λ r. ⌜ (r .owed ≡ playedOwed (model (now (s .entry))) (choice (now (q .entry))))
-        × (r .ends ≡ playedEnds (model (now (s .entry))) (choice (now (q .entry))))
+    ensures { λ r. ⌜ (r .ends ≡ playedEnds (model (now (s .entry))) (choice (now (q .entry))))
+        × (passNumbers (r .judged) ≡ playedRefusal (model (now (s .entry))) (choice (now (q .entry))))
         × (now (grid .exit) ≡ playedGrid (model (now (s .entry))) (choice (now (q .entry))) (now (grid .entry))) ⌝ }
 {
     let sizes = records::model::counts(s);
     if 32 < sizes.activities {
         return Played {
-            owed: [0u32; 32],
             ends: [0u32; 32],
+            judged: Pass::Holds,
         };
     }
     let tables = tabulate(s, q);
-    play_ticks(s, q, &tables, grid)
+    let last = play_ticks(s, q, &tables, grid);
+    let owed = last.owed;
+    let ends = last.ends;
+    let judged = ending::judge(s, q, &owed, &ends);
+    Played { ends, judged }
 }

@@ -2,44 +2,21 @@
 -- Assumes nothing.
 use Prim.Native.Nat.{ℕ, _+_, _-_, _≤_, _<_}
 use native.Mathlib.Nat.{add-zero}
-use native.Mathlib.Numerals.{add-one}
 use native.Mathlib.Omega.{arith}
-use mathlib.Core.Bool.{Bool}
 use mathlib.Core.List.{List, [], _++_, append-assoc, append-nil}
-use mathlib.Core.Path.{_≡_, refl, sym, subst, ap, ap₂, _∙_}
-use lib.Dec.{T}
+use mathlib.Core.Path.{_≡_, refl, ap, ap₂, _∙_}
 use lib.ListN.{length, take, drop, length-append, length-drop, drop-of-length-le}
 use lib.Seq.{take-all}
 use borrow.Rule.Slice.PartMut.{putMid, postOf}
-use Rattle.schedule.specs.Bounded.{lowest, bit}
+use Rattle.schedule.specs.Bounded.{bit}
 use Rattle.schedule.specs.Plan.{planThreadRow, gridAt, wordIn, pairRows}
-use Rattle.laws.proofs.Tests.{up-to}
-use Rattle.laws.proofs.Lowest.{lowest-is, lowest-unique}
+use Rattle.laws.proofs.Lowest.{lowest-is}
 use Rattle.laws.proofs.PlanBytes.{length-pairs}
-use Rattle.bits.proofs.WordLaws.{lowest-same}
 use Rattle.fields.specs.Put.{put}
 use Rattle.fields.proofs.PutLaws.{put-after, put-part}
 use Rattle.records.specs.Writes.{headBytes}
 use Rattle.records.proofs.WriteLaws.{length-head, pairs-ext}
 use Rattle.run.specs.Front.{frontBytes, startIn}
-
--- ---- searching
-
--- nothing below i has the property
-abbrev pub Clear : (ℕ → Bool) → ℕ → Type 0
-Clear p i = (j : ℕ) → j < i → ¬ T (p j)
-
-pub clear-none : (p : ℕ → Bool) → Clear p 0
-clear-none p j l = absurd (omega arith)
-
-pub clear-more : (p : ℕ → Bool) (i : ℕ) (b : Bool) → Clear p i → b ≡ p i → (¬ T b) → Clear p (i + 1)
-clear-more p i b h e f = rw (add-one i) (up-to (λ j. ¬ T (p j)) i h (subst (λ (x : Bool). ¬ T x) e f))
-
-pub found-here : (n : ℕ) (p : ℕ → Bool) (i : ℕ) (b : Bool) → i < n → Clear p i → b ≡ p i → T b → i ≡ lowest n p
-found-here n p i b l h e t = sym (lowest-unique n p i l (subst T e t) h)
-
-pub found-none : (n : ℕ) (p : ℕ → Bool) (i : ℕ) → i ≤ n → n ≤ i → Clear p i → i ≡ lowest n p
-found-none n p i k l h = lowest-same n p i (record { bound = k; none-below = h; found = λ j. absurd (omega arith) })
 
 -- ---- a lent part
 

@@ -1,148 +1,53 @@
--- What the run answers and leaves: rules 42 and 43 from the tables, and the buffer from its pieces.
+-- What the run answers and leaves: the buffer from its pieces.
 -- Assumes nothing.
-use Prim.Native.Nat.{ℕ, zero, suc, _+_, _-_, _≤_, _<_}
+use Prim.Native.Nat.{ℕ, _+_, _-_, _≤_, _<_}
 use native.Mathlib.Nat.{lt-of-lt-of-le}
 use native.Mathlib.Omega.{arith}
-use mathlib.Core.Bool.{Bool, not, cond}
-use mathlib.Core.List.{List, [], _++_, append-assoc}
+use mathlib.Core.Bool.{Bool, cond}
+use mathlib.Core.List.{List, _++_, append-assoc}
 use mathlib.Core.Option.{Option, some, none}
-use mathlib.Core.Path.{_≡_, refl, sym, subst, ap, ap₂, _∙_}
-use lib.Dec.{T, eqb, ltb}
+use mathlib.Core.Path.{_≡_, refl, sym, ap, _∙_}
 use lib.ListN.{length, getD, take, drop, replicate, length-append, length-drop}
 use borrow.Author.Tests.{le-leb}
 use borrow.Rule.Slice.PartMut.{putMid}
 use lib.Pow.{pow-mono}
-use Rattle.schedule.specs.Bounded.{lowest, bit}
-use Rattle.schedule.specs.Rule.{Rule, Refusal, break, firstBreak}
+use Rattle.schedule.specs.Bounded.{bit}
+use Rattle.schedule.specs.Rule.{Refusal, firstBreak}
 use Rattle.schedule.specs.declared.Figures.{Figures as Shown}
 use Rattle.schedule.specs.declared.Refusal.{Refusal as Declared}
 use Rattle.schedule.specs.declared.RunVerdict.{RunVerdict}
 use Rattle.schedule.specs.Numbers.{refusalNumbers, figureNumbers, runNumbers}
-use Rattle.schedule.specs.Model.{Model, Formed, model, modelForm}
-use Rattle.schedule.specs.Choice.{Choice, choice, choiceTiming, choiceForm}
+use Rattle.schedule.specs.Model.{Model, Formed, model}
+use Rattle.schedule.specs.Choice.{Choice, choice}
 use Rattle.schedule.specs.Plan.{plan, planBytes, pairRows, tickAt, wordIn}
-use Rattle.schedule.specs.Machine.{machineWord, machineStart, machineEnd, machineOwes}
-use Rattle.schedule.specs.Timing.{onTime, inTime, deadlineRule}
-use Rattle.schedule.specs.Answers.{Answer, accepted, refused, figures, Written, machinePlan, owedRule, runRules}
+use Rattle.schedule.specs.Machine.{machineWord, machineStart, machineEnd}
+use Rattle.schedule.specs.Answers.{Answer, accepted, refused, figures, Written, machinePlan, runRules}
 use Rattle.schedule.specs.Answers.{lengthNeeded, written, runChecks, Outcome, from-run, succeeded, concluded, outcome}
 use Rattle.schedule.specs.Answers.{answerOf, runAnswer, bufferAfter, runBuffer}
-use Rattle.laws.proofs.Tests.{T-not, T-not-not}
-use Rattle.laws.proofs.Lowest.{Lowest, lowest-is}
+use Rattle.laws.proofs.Lowest.{lowest-ext}
 use Rattle.laws.proofs.FieldLaws.{length-bytes, field-drop}
 use Rattle.laws.proofs.Parts.{Stands, stands-whole, stands-first, stands-field, stands-row}
-use Rattle.laws.proofs.RowLaws.{refusalAt, ClearTo, clear-end, clear-stop, row-clear, row-broken}
 use Rattle.laws.proofs.Sums.{figures-ext}
 use Rattle.laws.proofs.MachineLaws.{word-lt}
 use Rattle.laws.proofs.MachinePlan.{end-le, plan-fits}
-use Rattle.laws.proofs.Formed.{model-says}
 use Rattle.laws.proofs.PlanBytes.{length-pairs, length-planBytes, reads-from}
 use Rattle.laws.proofs.VerdictLaws.{run-from-input, run-past-input, outcome-short, outcome-fits}
 use Rattle.laws.proofs.VerdictLaws.{concluded-refused, concluded-succeeded}
-use Rattle.laws.proofs.FirstBreak.{none-iff, append-none, append-some, rule-stops, rule-goes-on}
-use Rattle.laws.proofs.Sound.{modelForm-sound}
 use Rattle.fields.specs.Put.{put}
 use Rattle.fields.proofs.PutLaws.{put-at, put-back, put-front, put-twice, drop-put, length-put}
 use Rattle.records.specs.Writes.{headBytes}
 use Rattle.records.proofs.WriteLaws.{length-head, pairs-ext}
-use Rattle.tables.specs.Columns.{TableOf, byActivity}
-use Rattle.tables.proofs.TableLaws.{by-table}
-use Rattle.machine.specs.Played.{gridBytes, playedOwed, playedEnds, writtenGrid, playedGrid}
-use Rattle.machine.proofs.PlayLaws.{length-grid, grid-whole}
-use Rattle.run.specs.Outcome.{Stopped, Placed, Standing, Answers}
-use Rattle.run.specs.Front.{frontBytes, frontIn, gridOf, gridIn, startIn, inTimeFrom}
+use Rattle.machine.specs.Played.{gridBytes, playedEnds, playedRefusal, writtenGrid, playedGrid}
+use Rattle.machine.proofs.PlayLaws.{length-grid, grid-whole, played-ended}
+use Rattle.records.specs.declared.Pass.{Pass}
+use Rattle.records.specs.Reads.{passNumbers}
+use Rattle.run.specs.Outcome.{Placed, Standing, Answers}
+use Rattle.run.specs.Front.{frontBytes, frontIn, gridOf, gridIn, startIn}
 use Rattle.run.proofs.PlanLaws.{rest-says, part-says}
-
--- ---- a rule of one column, from the lowest row that breaks it
-
-module _ (r : Rule) (one : r .columns ≡ 1) (i : ℕ) (low : Lowest (r .rows) (λ a. not (r .test a 0)) i) where
-  clear-rows : ClearTo r i
-  unfolding ClearTo
-  clear-rows a l =
-      row-clear r a (λ b k.
-      let z : b ≡ 0 = omega (arith, one) in
-      subst (λ (x : ℕ). T (r .test a x)) (sym z) (T-not-not (r .test a 0) (low .none-below a l)))
-
-  pub break-at : i < r .rows → break r ≡ some (refusalAt r i 0)
-  break-at l =
-      clear-stop r i (refusalAt r i 0) clear-rows l
-      (row-broken r i 0 (omega (arith, one)) (λ j k. absurd (omega arith)) (T-not (r .test i 0) .0 (low .found l)))
-
-  pub break-none-at : r .rows ≤ i → break r ≡ none
-  break-none-at l =
-      let e : i ≡ r .rows = omega (arith, low .bound) in
-      clear-end r (subst (λ (k : ℕ). ClearTo r k) e clear-rows)
-
-lowest-ext : (n : ℕ) (p q : ℕ → Bool) → ((i : ℕ) → i < n → p i ≡ q i) → lowest n p ≡ lowest n q
-unfolding lowest
-lowest-ext zero p q h = refl
-lowest-ext (suc n) p q h =
-    ap₂ (λ (i : ℕ) (b : Bool). cond (ltb i n) i (cond b n (suc n))) (lowest-ext n p q (λ i l. h i (omega arith))) (h n (omega arith))
-
-is-lowest : (n : ℕ) (p : ℕ → Bool) (i : ℕ) → i ≡ lowest n p → Lowest n p i
-is-lowest n p i e = subst (Lowest n p) (sym e) (lowest-is n p)
-
--- ---- rules 42 and 43, from the tables
-
-none-left : firstBreak [] ≡ none
-unfolding firstBreak
-none-left = refl
-
-module _ (m : Model) (q : Choice) (owed ends : List ℕ) (stopped : Stopped m q owed ends) (n : ℕ) (en : n ≡ m .activities) where
-  -- rule 43
-  abbrev deadline : Rule
-  deadline = deadlineRule 43 m (choiceTiming q) (machineEnd m (q .release) (q .duration))
-
-  owing-is : (i : ℕ) → i ≡ lowest n (λ a. not (eqb (getD owed a 0) 0))
-      → Lowest (owedRule m q .rows) (λ a. not (owedRule m q .test a 0)) i
-  unfolding owedRule
-  owing-is i e =
-      is-lowest (m .activities) _ i
-      (e
-      ∙ ap (λ (k : ℕ). lowest k (λ a. not (eqb (getD owed a 0) 0))) en
-      ∙ lowest-ext (m .activities) _ _ (λ a l. ap (λ (x : ℕ). not (eqb x 0)) (stopped .owed-ticks a l)))
-
-  late-is : (i : ℕ) (releases periods : List ℕ) → TableOf m releases (λ a. q .release (m .thread a))
-      → TableOf m periods (λ a. q .period (m .thread a))
-      → i ≡ lowest n (λ a. not (inTimeFrom releases periods ends a))
-      → Lowest (deadline .rows) (λ a. not (deadline .test a 0)) i
-  unfolding deadlineRule inTime inTimeFrom
-  late-is i releases periods released held e =
-      is-lowest (m .activities) _ i
-      (e
-      ∙ ap (λ (k : ℕ). lowest k (λ a. not (inTimeFrom releases periods ends a))) en
-      ∙ lowest-ext (m .activities) _ _ (λ a l.
-      ap (λ (release : ℕ). not (onTime release (getD periods a 0) (getD ends a 0))) (released a l)
-      ∙ ap₂ (λ (period end : ℕ). not (onTime (q .release (m .thread a)) period end)) (held a l) (stopped .end-ticks a l)))
-
-  pub owed-first : (i : ℕ) → i ≡ lowest n (λ a. not (eqb (getD owed a 0) 0)) → i < n
-      → firstBreak (runRules m q) ≡ some (record { number = 42; A = i; B = 0 })
-  unfolding runRules owedRule
-  owed-first i e l = rule-stops (owedRule m q) _ _ (break-at (owedRule m q) refl i (owing-is i e) (omega arith))
-
-  owed-none : (i : ℕ) → i ≡ lowest n (λ a. not (eqb (getD owed a 0) 0)) → n ≤ i → break (owedRule m q) ≡ none
-  unfolding owedRule
-  owed-none i e l = break-none-at (owedRule m q) refl i (owing-is i e) (omega arith)
-
-  module _ (i j : ℕ) (releases periods : List ℕ) (released : TableOf m releases (λ a. q .release (m .thread a)))
-      (held : TableOf m periods (λ a. q .period (m .thread a)))
-      (ei : i ≡ lowest n (λ a. not (eqb (getD owed a 0) 0))) (li : n ≤ i)
-      (ej : j ≡ lowest n (λ a. not (inTimeFrom releases periods ends a))) where
-    pub late-first : j < n → firstBreak (runRules m q) ≡ some (record { number = 43; A = j; B = 0 })
-    unfolding runRules deadlineRule
-    late-first l =
-        rule-goes-on (owedRule m q) _ (owed-none i ei li)
-        ∙ rule-stops deadline [] _ (break-at deadline refl j (late-is j releases periods released held ej) (omega arith))
-
-    pub none-late : n ≤ j → firstBreak (runRules m q) ≡ none
-    unfolding runRules deadlineRule
-    none-late l =
-        rule-goes-on (owedRule m q) _ (owed-none i ei li)
-        ∙ rule-goes-on deadline [] (break-none-at deadline refl j (late-is j releases periods released held ej) (omega arith))
-        ∙ none-left
 
 -- ---- the words, starts and ends of the buffer
 
-module _ (m : Model) (q : Choice) (out owed ends : List ℕ) (stands : Standing m q out owed ends) where
+module _ (m : Model) (q : Choice) (out : List ℕ) (judged : Pass) (ends : List ℕ) (stands : Standing m q out judged ends) where
   fits : gridOf m + length (gridBytes m q (m .horizon)) ≤ length out
   unfolding lengthNeeded
   fits = omega (arith, length-grid m q (m .horizon), stands .room)
@@ -153,7 +58,7 @@ module _ (m : Model) (q : Choice) (out owed ends : List ℕ) (stands : Standing 
       field-drop (gridOf m) out (tickAt t) 4
       ∙ stands-field out (gridOf m + tickAt t) 4 (machineWord m (q .release) (q .duration) t)
       (stands-row out (gridOf m) 4 (m .horizon) _ (λ u _. length-bytes 4 (machineWord m (q .release) (q .duration) u)) whole t l)
-      (lt-of-lt-of-le (word-lt m (q .release) (q .duration) t) (pow-mono (stands .stopped .formed .activities .1)))
+      (lt-of-lt-of-le (word-lt m (q .release) (q .duration) t) (pow-mono (stands .ended .formed .activities .1)))
     where
       whole : Stands out (gridOf m) (gridBytes m q (m .horizon))
       whole i k =
@@ -171,7 +76,7 @@ module _ (m : Model) (q : Choice) (out owed ends : List ℕ) (stands : Standing 
       (headBytes (m .threads) (m .activities) (m .horizon) ++ (pairRows (m .threads) (q .release) (q .period) ++ b))
       ++ gridBytes m q (m .horizon))
       (pairs-ext (m .activities) _ _ (machineStart m (q .release) (q .duration)) (machineEnd m (q .release) (q .duration))
-      (λ a l. start-in a) (stands .stopped .end-ticks))
+      (λ a l. start-in a) (stands .ended .end-ticks))
       ∙ opened
     where
       opened : (headBytes (m .threads) (m .activities) (m .horizon)
@@ -210,9 +115,9 @@ module _ (m : Model) (q : Choice) (out owed ends : List ℕ) (stands : Standing 
   ends-small a l =
       omega (
         arith,
-        stands .stopped .end-ticks a l,
+        stands .ended .end-ticks a l,
         end-le m (q .release) (q .duration) (m .horizon) a l,
-        stands .stopped .formed .horizon .1,
+        stands .ended .formed .horizon .1,
       )
 
 -- ---- the grid that was placed
@@ -223,12 +128,13 @@ unfolding lengthNeeded
 placed-fits m q l h = omega (arith, length-grid m q (m .horizon))
 
 -- the machine played into the part behind the rows
-pub played-placed : (m : Model) (q : Choice) (at : ℕ) (out part owed ends : List ℕ) → Formed m
+pub played-placed : (m : Model) (q : Choice) (at : ℕ) (out part : List ℕ) (judged : Pass) (ends : List ℕ) → Formed m
     → gridOf m + tickAt (m .horizon) ≤ length out → at ≡ gridOf m
-    → (owed ≡ playedOwed m q) × (ends ≡ playedEnds m q) × (part ≡ playedGrid m q (take (length out - at) (drop at out)))
-    → Placed m q out (putMid at (length out - at) out part) owed ends
-unfolding playedOwed playedEnds playedGrid
-played-placed m q at out part owed ends formed room e h =
+    → (ends ≡ playedEnds m q) × (passNumbers judged ≡ playedRefusal m q)
+    × (part ≡ playedGrid m q (take (length out - at) (drop at out)))
+    → Placed m q out (putMid at (length out - at) out part) judged ends
+unfolding playedGrid
+played-placed m q at out part judged ends formed room e h =
     let few = formed .activities .1 in
     let yes? = le-leb (m .activities) 32 few in
     let behind : List ℕ = take (length out - at) (drop at out) in
@@ -238,26 +144,20 @@ played-placed m q at out part owed ends formed room e h =
       written = part-says at _ _ out part (omega arith) refl
           (h .2 ∙ ap (λ (t : Bool). cond t (writtenGrid m q (m .horizon) behind) behind) yes? ∙ grid-whole m q behind fits)
           ∙ ap (λ (k : ℕ). put k (gridBytes m q (m .horizon)) out) e;
-      stopped = record {
-        formed = formed;
-        owed-ticks = by-table m _ owed few
-            (h .0 ∙ ap (λ (t : Bool). cond t (byActivity m (machineOwes m (q .release) (q .duration))) (replicate 32 0)) yes?);
-        end-ticks = by-table m _ ends few
-            (h .1 ∙ ap (λ (t : Bool). cond t (byActivity m (machineEnd m (q .release) (q .duration))) (replicate 32 0)) yes?);
-      };
+      ended = played-ended m q judged ends formed (h .0) (h .1);
     }
 
 -- it stands
-pub placed-stands : (m : Model) (q : Choice) (l out owed ends : List ℕ) → lengthNeeded m ≤ length l
-    → Placed m q l out owed ends → Standing m q out owed ends
-placed-stands m q l out owed ends room p =
+pub placed-stands : (m : Model) (q : Choice) (l out : List ℕ) (judged : Pass) (ends : List ℕ) → lengthNeeded m ≤ length l
+    → Placed m q l out judged ends → Standing m q out judged ends
+placed-stands m q l out judged ends room p =
     let e = placed-fits m q l room in
     record {
       room = omega (arith, ap length (p .written), length-put (gridOf m) (gridBytes m q (m .horizon)) l);
       grid = ap (put (gridOf m) (gridBytes m q (m .horizon))) (p .written)
           ∙ put-twice (gridOf m) (gridBytes m q (m .horizon)) l (omega arith)
           ∙ sym (p .written);
-      stopped = p .stopped;
+      ended = p .ended;
     }
 
 -- ---- the answers where there is room
@@ -295,17 +195,17 @@ figures-read m q rest formed release period =
     (stands-first (bytes ++ rest) 0 bytes rest (stands-whole (bytes ++ rest))) in
     figures-ext m (plan (bytes ++ rest)) (machinePlan m q) (back .word) (back .end) (back .release)
 
-pub accepted-answers : (m : Model) (q : Choice) (out out′ owed ends : List ℕ) (k : ℕ) (f : Shown)
+pub accepted-answers : (m : Model) (q : Choice) (out out′ : List ℕ) (judged : Pass) (ends : List ℕ) (k : ℕ) (f : Shown)
     → ((j : ℕ) → q .release j < 65536) → ((j : ℕ) → q .period j < 65536)
-    → Standing m q out owed ends → firstBreak (runRules m q) ≡ none
+    → Standing m q out judged ends → firstBreak (runRules m q) ≡ none
     → k ≡ lengthNeeded m → out′ ≡ put 0 (frontIn m q out ends) out → figureNumbers f ≡ figures m (plan out′)
     → Answers (concluded m q) m q out out′ (RunVerdict.Accepted (record { length = k; figures = f }))
 unfolding answerOf bufferAfter
-accepted-answers m q out out′ owed ends k f release period stands e ek eo ef =
+accepted-answers m q out out′ judged ends k f release period stands e ek eo ef =
     let c = concluded-succeeded m q e in
-    let whole = eo ∙ plan-written m q out owed ends stands in
+    let whole = eo ∙ plan-written m q out judged ends stands in
     let g = ef ∙ ap (λ (l : List ℕ). figures m (plan l)) whole
-    ∙ figures-read m q (drop (lengthNeeded m) out) (stands .stopped .formed) release period in
+    ∙ figures-read m q (drop (lengthNeeded m) out) (stands .ended .formed) release period in
     let both : _≡_ {A = Written} (record { length = k; figures = figureNumbers f }) (written m q) =
     λ i. record { length = ek i; figures = g i } in
     record {
@@ -327,9 +227,9 @@ room-answers m q l x h e =
     }
 
 -- with room, what was concluded of the buffer with the grid holds of the buffer as it was lent
-pub outcome-answers : (m : Model) (q : Choice) (l out out′ owed ends : List ℕ) (r : RunVerdict) → lengthNeeded m ≤ length l
-    → Placed m q l out owed ends → Answers (concluded m q) m q out out′ r → Answers (outcome m q (length l)) m q l out′ r
-outcome-answers m q l out out′ owed ends r h p a =
+pub outcome-answers : (m : Model) (q : Choice) (l out out′ : List ℕ) (judged : Pass) (ends : List ℕ) (r : RunVerdict)
+    → lengthNeeded m ≤ length l → Placed m q l out judged ends → Answers (concluded m q) m q out out′ r → Answers (outcome m q (length l)) m q l out′ r
+outcome-answers m q l out out′ judged ends r h p a =
     let o = outcome-fits m q (length l) h in
     record {
       says = a .says ∙ sym (ap answerOf o);
@@ -357,14 +257,6 @@ outcome-answers m q l out out′ owed ends r h p a =
 -- ---- the input
 
 module _ (s q : List ℕ) where
-  pub model-breaks : (x : Refusal) → firstBreak (modelForm s) ≡ some x → firstBreak (runChecks s q) ≡ some x
-  unfolding runChecks
-  model-breaks x e = append-some (modelForm s) (choiceForm (model s) q) x e
-
-  pub model-holds : firstBreak (modelForm s) ≡ none → firstBreak (runChecks s q) ≡ firstBreak (choiceForm (model s) q)
-  unfolding runChecks
-  model-holds e = append-none (modelForm s) (choiceForm (model s) q) e
-
   -- an input refusal changes no byte
   pub input-refused : (l : List ℕ) (x : Refusal) → firstBreak (runChecks s q) ≡ some x
       → (refused x ≡ runAnswer s q (length l)) × (l ≡ runBuffer s q l)
@@ -381,7 +273,3 @@ module _ (s q : List ℕ) where
   input-passed l l′ r e a =
       let o = run-past-input s q (length l) e in
       (a .says ∙ sym (ap answerOf o), a .leaves ∙ sym (ap (λ (o : Outcome). bufferAfter o (model s) (choice q) l) o))
-
--- a model that meets its form rules
-pub form-says : (s : List ℕ) → firstBreak (modelForm s) ≡ none → Formed (model s)
-form-says s e = model-says s (none-iff (modelForm s) (modelForm-sound s) .0 e)

@@ -20,7 +20,7 @@ use Rattle.bits.proofs.WordLaws.{bit-and, bit-not, bit-or, bit-zero}
 use Rattle.bits.proofs.Apart.{lowest-lt, lowest-set, gone, kept, still-within, none-taken}
 use Rattle.run.specs.Front.{startIn, Entered}
 use Rattle.tables.proofs.TableLaws.{table-whole}
-use Rattle.run.proofs.PlanLaws.{Clear, clear-none, clear-more, found-here, found-none}
+use Rattle.laws.proofs.Lowest.{Clear, clear-none, clear-more, found-here, found-none}
 
 -- ---- one tick
 

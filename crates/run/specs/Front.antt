@@ -1,13 +1,12 @@
 -- A plan's bytes in front of its grid, and what the grid's words say.
 -- Assumes nothing.
 use Prim.Native.Nat.{ℕ, _<_}
-use mathlib.Core.Bool.{Bool, cond}
+use mathlib.Core.Bool.{cond}
 use mathlib.Core.List.{List, _++_}
 use mathlib.Core.Path.{_≡_}
 use lib.ListN.{length, getD, drop}
 use Rattle.schedule.specs.Bounded.{bit, lowest}
 use Rattle.schedule.specs.Model.{Model}
-use Rattle.schedule.specs.Timing.{onTime}
 use Rattle.schedule.specs.Choice.{Choice}
 use Rattle.schedule.specs.Plan.{gridAt, wordIn, pairRows}
 use Rattle.records.specs.Writes.{headBytes}
@@ -32,10 +31,6 @@ startIn grid h a = lowest h (λ t. bit (wordIn grid t) a)
 pub record Entered (word t : ℕ) (starts starts′ : List ℕ) : Type 0 where
   pub sized : length starts′ ≡ 32
   pub entered : (a : ℕ) → a < 32 → getD starts′ a 0 ≡ cond (bit word a) t (getD starts a 0)
-
--- activity a keeps its deadline, from tables of releases, periods and ends
-unfoldable pub inTimeFrom : List ℕ → List ℕ → List ℕ → ℕ → Bool
-inTimeFrom releases periods ends a = onTime (getD releases a 0) (getD periods a 0) (getD ends a 0)
 
 -- what is written in front of a grid, from a buffer that has it and a table of ends
 unfoldable pub frontIn : Model → Choice → List ℕ → List ℕ → List ℕ

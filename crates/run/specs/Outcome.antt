@@ -6,31 +6,24 @@ use mathlib.Core.Path.{_≡_}
 use lib.ListN.{length, getD}
 use Rattle.schedule.specs.Model.{Model, Formed}
 use Rattle.schedule.specs.Choice.{Choice}
-use Rattle.schedule.specs.Machine.{machineEnd, machineOwes}
 use Rattle.schedule.specs.Answers.{lengthNeeded, Outcome, answerOf, bufferAfter}
 use Rattle.schedule.specs.Numbers.{runNumbers}
 use Rattle.schedule.specs.declared.RunVerdict.{RunVerdict}
 use Rattle.fields.specs.Put.{put}
-use Rattle.tables.specs.Columns.{TableOf}
-use Rattle.machine.specs.Played.{gridBytes}
+use Rattle.records.specs.declared.Pass.{Pass}
+use Rattle.machine.specs.Played.{gridBytes, Ended}
 use Rattle.run.specs.Front.{gridOf}
 
--- Tables that hold what the machine leaves at H.
-pub record Stopped (m : Model) (q : Choice) (owed ends : List ℕ) : Type 0 where
-  pub formed : Formed m
-  pub owed-ticks : TableOf m owed (machineOwes m (q .release) (q .duration))
-  pub end-ticks : TableOf m ends (machineEnd m (q .release) (q .duration))
-
--- The grid is written behind the rows, and the tables hold what the machine leaves.
-pub record Placed (m : Model) (q : Choice) (out out′ owed ends : List ℕ) : Type 0 where
+-- The grid is written behind the rows.
+pub record Placed (m : Model) (q : Choice) (out out′ : List ℕ) (judged : Pass) (ends : List ℕ) : Type 0 where
   pub written : out′ ≡ put (gridOf m) (gridBytes m q (m .horizon)) out
-  pub stopped : Stopped m q owed ends
+  pub ended : Ended m q judged ends
 
--- The grid stands in the buffer, and the tables hold what the machine leaves.
-pub record Standing (m : Model) (q : Choice) (out owed ends : List ℕ) : Type 0 where
+-- The grid stands in the buffer.
+pub record Standing (m : Model) (q : Choice) (out : List ℕ) (judged : Pass) (ends : List ℕ) : Type 0 where
   pub room : lengthNeeded m ≤ length out
   pub grid : put (gridOf m) (gridBytes m q (m .horizon)) out ≡ out
-  pub stopped : Stopped m q owed ends
+  pub ended : Ended m q judged ends
 
 -- There is room for what stands in front of the grid, and the ends fit their fields.
 pub record FrontFits (m : Model) (out ends : List ℕ) : Type 0 where

@@ -2,6 +2,8 @@
 use records::Pass;
 use records::choice::ChoiceRead;
 use records::model::ModelRead;
+use schedule::Place;
+use schedule::Refusal;
 use schedule::RunRefusal;
 use schedule::RunVerdict;
 use schedule::Written;
@@ -13,18 +15,16 @@ ghost use Rattle.schedule.specs.Answers.{concluded, outcome, runAnswer, runBuff
 ghost use Rattle.schedule.specs.Numbers.{runNumbers};
 ghost use Rattle.run.specs.Outcome.{Standing, Answers};
 
-mod finish;
 mod plan;
 
 // The answer once the grid stands in the buffer: "42 and 43 set the plan's length of bytes to 0", a success writes the rest
 // of the plan.
-fn conclude(s: &[u8], q: &[u8], owed: &[u32; 32], ends: &[u32; 32], out: &mut [u8]) -> RunVerdict
-    requires { ⌜ Standing (model (now s)) (choice (now q)) (now out) (now owed) (now ends) ⌝ }
+fn conclude(s: &[u8], q: &[u8], judged: Pass, ends: &[u32; 32], out: &mut [u8]) -> RunVerdict
+    requires { ⌜ Standing (model (now s)) (choice (now q)) (now out) judged (now ends) ⌝ }
     ensures { λ r. ⌜ Answers (concluded (model (now (s .entry))) (choice (now (q .entry)))) (model (now (s .entry)))
         (choice (now (q .entry))) (now (out .entry)) (now (out .exit)) r ⌝ }
 {
     let length = plan::needed(s);
-    let judged = finish::judge(s, q, owed, ends);
     if let Pass::Refused(x) = judged {
         plan::clear(out, length as usize);
         return RunVerdict::Refused(x);
@@ -44,12 +44,13 @@ fn attempt(s: &[u8], q: &[u8], out: &mut [u8]) -> RunVerdict
 {
     let length = plan::needed(s);
     if out.len() < length as usize {
-        return RunVerdict::Refused(finish::refusal(RunRefusal::Room, length));
+        let place = Place { a: length, b: 0 };
+        return RunVerdict::Refused(Refusal::Run(RunRefusal::Room, place));
     }
     let played = plan::write_grid(s, q, out);
-    let owed = played.owed;
     let ends = played.ends;
-    conclude(s, q, &owed, &ends, out)
+    let judged = played.judged;
+    conclude(s, q, judged, &ends, out)
 }
 
 // The priority run on a model's and a choice's bytes, with the plan written into the lent buffer.

@@ -37,7 +37,7 @@ pub(crate) fn grid_at(s: &[u8]) -> usize
 pub(crate) fn write_grid(s: &[u8], q: &[u8], out: &mut [u8]) -> Played
     requires { ⌜ Formed (model (now s)) × (lengthNeeded (model (now s)) ≤ length (now out)) ⌝ }
     ensures { λ r. ⌜ Placed (model (now (s .entry))) (choice (now (q .entry))) (now (out .entry)) (now (out .exit))
-        (r .owed) (r .ends) ⌝ }
+        (r .judged) (r .ends) ⌝ }
 {
     let at = grid_at(s);
     machine::play(s, q, &mut out[at..])

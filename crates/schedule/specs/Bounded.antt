@@ -49,7 +49,7 @@ first zero f = none
 first (suc n) f = elim (first n f) [ some x ↦ some x | none ↦ f n ]
 
 -- the list f 0, f 1, .., f (n - 1)
-unfoldable pub table : ℕ → (ℕ → ℕ) → List ℕ
+unfoldable pub table : {A : Type 0} → ℕ → (ℕ → A) → List A
 table zero f = []
 table (suc n) f = table n f ++ (f n ∷ [])
 

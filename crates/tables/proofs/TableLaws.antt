@@ -28,7 +28,7 @@ use Rattle.tables.specs.Columns.{TableOf, byActivity, amongActivities}
 pub table-whole : (n : ℕ) (f : ℕ → ℕ) (l : List ℕ) → length l ≡ n → ((i : ℕ) → i < n → getD l i 0 ≡ f i) → l ≡ table n f
 table-whole n f l sized h =
     ext-getD 0 l (table n f) (sized ∙ sym (length-table n f)) (λ i k.
-    h i (omega (arith, sized)) ∙ sym (getD-table n f i (omega (arith, sized))))
+    h i (omega (arith, sized)) ∙ sym (getD-table 0 n f i (omega (arith, sized))))
 
 -- and so is one with an entry for each activity and 0 for what is none
 pub table-by : (m : Model) (f : ℕ → ℕ) (l : List ℕ) → length l ≡ 32
@@ -48,13 +48,13 @@ length-by m f = length-table 32 _
 -- an activity's entry
 pub by-at : (m : Model) (f : ℕ → ℕ) (a : ℕ) → a < m .activities → a < 32 → getD (byActivity m f) a 0 ≡ f a
 unfolding byActivity
-by-at m f a l k = getD-table 32 _ a k ∙ ap (λ (t : Bool). cond t (f a) 0) (lt-ltb a (m .activities) l)
+by-at m f a l k = getD-table 0 32 _ a k ∙ ap (λ (t : Bool). cond t (f a) 0) (lt-ltb a (m .activities) l)
 
 -- no activity's
 pub by-beyond : (m : Model) (f : ℕ → ℕ) (a : ℕ) → m .activities ≤ a → getD (byActivity m f) a 0 ≡ 0
 unfolding byActivity
 by-beyond m f a l = elim (decLt a 32) [
-  | yes k ↦ getD-table 32 _ a k ∙ ap (λ (t : Bool). cond t (f a) 0) (le-ltb a (m .activities) l)
+  | yes k ↦ getD-table 0 32 _ a k ∙ ap (λ (t : Bool). cond t (f a) 0) (le-ltb a (m .activities) l)
   | no k ↦ List·getD-eq-default (byActivity m f) 0 {n = a} (omega (arith, length-by m f))
 ]
 

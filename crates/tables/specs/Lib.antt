@@ -1,3 +1,4 @@
 pub mod Columns
 pub mod Counts
 pub mod Ranking
+pub mod Releases

@@ -10,6 +10,7 @@ ghost use Rattle.schedule.specs.Model.{model};
 ghost use Rattle.schedule.specs.Plan.{plan, wordIn};
 ghost use Rattle.schedule.specs.Answers.{figures};
 ghost use Rattle.schedule.specs.Numbers.{figureNumbers};
+ghost use Rattle.tables.specs.Releases.{releasesOf};
 
 // All ones, counted from the words of a grid.
 fn usage(grid: &[u8], horizon: u16) -> u32
@@ -45,25 +46,39 @@ fn latest_end(r: &[u8], n: u8) -> u32
     latest
 }
 
-// The release of thread j.
-fn release_of(r: &[u8], j: u8) -> u32
-    ensures { λ x. ⌜ x ≡ plan (now (r .entry)) .release j ⌝ }
-{
-    let row = records::plan::timing_at(r, j);
-    row.release as u32
+// The second record, whose rows of release and period are read: a choice, or a plan.
+pub enum Second {
+    Choice,
+    Plan,
 }
 
-// The least release over all threads, those without activities too.
-fn least_release(r: &[u8], n: u8) -> u32
-    ensures { λ x. ⌜ x ≡ least n (plan (now (r .entry)) .release) ⌝ }
+// The release of thread j.
+fn release_of(whose: Second, r: &[u8], j: u8) -> u32
+    ensures { λ x. ⌜ x ≡ releasesOf whose (now (r .entry)) j ⌝ }
+{
+    match whose {
+        Second::Choice => {
+            let row = records::choice::timing_at(r, j);
+            row.release as u32
+        }
+        Second::Plan => {
+            let row = records::plan::timing_at(r, j);
+            row.release as u32
+        }
+    }
+}
+
+// The least release over n threads, those without activities too.
+pub fn least_release(whose: Second, r: &[u8], n: u8) -> u32
+    ensures { λ x. ⌜ x ≡ least n (releasesOf whose (now (r .entry))) ⌝ }
 {
     if n == 0 {
         return 0;
     }
-    let mut first = release_of(r, 0);
+    let mut first = release_of(whose, r, 0);
     let mut j: u8 = 1;
     while j < n {
-        first = smaller(first, release_of(r, j));
+        first = smaller(first, release_of(whose, r, j));
         j += 1;
     }
     first
@@ -78,7 +93,7 @@ pub fn figures(s: &[u8], r: &[u8]) -> Figures
     let horizon = sizes.horizon as u32;
     let capacity = cores * horizon;
     let latest = latest_end(r, sizes.activities);
-    let first = least_release(r, sizes.threads);
+    let first = least_release(Second::Plan, r, sizes.threads);
     Figures {
         usage: usage(records::plan::words(r), sizes.horizon),
         capacity,

@@ -1,10 +1,10 @@
--- `machine::play` meets its contract: the machine is played where a word has a bit for each activity.
+-- `machine::play` meets its contract: the machine is played, and its end judged, where a word has a bit for each activity.
 -- Assumes nothing.
 use native.Mathlib.Omega.{arith}
 use mathlib.Core.Path.{refl, ap}
 use Rattle.records.specs.Rows.{sizesOf}
 use Rattle.records.specs.declared.model.Sizes.{Sizes}
-use Rattle.machine.proofs.PlayLaws.{played, unplayed}
+use Rattle.machine.proofs.PlayLaws.{finished-stopped, played, unplayed}
 use borrow.Author.Needs.{needs}
 use Rattle.machine.proofs.play.Statement.{statement}
 use Rattle.machine.proofs.play.Tie as tie
@@ -26,17 +26,35 @@ tabulate-requires c κs =
 play-ticks-requires : tie.Need-play-ticks-requires
 play-ticks-requires c κs = c .before .before .tabulate .ensures
 
+judge-requires : tie.Need-judge-requires
+unfolding sizesOf
+judge-requires c κs =
+    let c6 = c .before .before .before .before .before .before in
+    let c10 = c6 .before .before .before .before in
+    finished-stopped _ _ _ _ _ _
+    (omega (arith, c10 .if1 .left, ap (λ (r : Sizes). r .activities) (c10 .before .before .counts .ensures)))
+    (c6 .play-ticks .ensures)
+
 same-length : tie.Need-same-length
 same-length c = search needs
 
 returns-2 : tie.Need-returns-2
 unfolding sizesOf
 returns-2 c =
-    let c6 = c .before .before .before .before .before .before in
-    played _ _ _ _ _ _ (omega (arith, c6 .if1 .left, ap (λ (r : Sizes). r .activities) (c6 .before .before .counts .ensures)))
-    (c .before .before .play-ticks .ensures)
+    let c7 = c .before .before .before .before .before .before .before in
+    let c11 = c7 .before .before .before .before in
+    played _ _ _ _ _ _ _
+    (omega (arith, c11 .if1 .left, ap (λ (r : Sizes). r .activities) (c11 .before .before .counts .ensures)))
+    (c7 .play-ticks .ensures) (c .judge .ensures)
 
 pub play-spec : {M : Type 1} → statement M
 play-spec =
     tie.close
-    (tie.spec counts-requires returns tabulate-requires play-ticks-requires same-length returns-2)
+    (tie.spec
+    counts-requires
+    returns
+    tabulate-requires
+    play-ticks-requires
+    judge-requires
+    same-length
+    returns-2)

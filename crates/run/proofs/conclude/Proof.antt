@@ -17,9 +17,6 @@ use Rattle.run.proofs.conclude.Tie as tie
 needed-requires : tie.Need-needed-requires
 needed-requires c κs = search needs
 
-judge-requires : tie.Need-judge-requires
-judge-requires c κs = search needs
-
 enum-known-judged : tie.Need-enum-known-judged
 enum-known-judged c = search needs
 
@@ -36,11 +33,10 @@ returns : tie.Need-returns
 returns c =
     let c5 = c .before .before .before .before .before in
     let c7 = c5 .before .before in
-    let c8 = c7 .before in
-    let c12 = c8 .before .before .before .before in
+    let start = c7 .before .before .before .before in
     refused-answers _ _ _ _ _
-    (sym (c7 .judge .ensures) ∙ ap passNumbers (c5 .judged .given .1))
-    (c .before .before .clear .ensures ∙ ap (λ (k : ℕ). replicate k 0 ++ drop k (c12 .args .out .now)) (c8 .needed .ensures))
+    (sym (start .pre .ended .refusal) ∙ ap passNumbers (c5 .judged .given .1))
+    (c .before .before .clear .ensures ∙ ap (λ (k : ℕ). replicate k 0 ++ drop k (start .args .out .now)) (c7 .needed .ensures))
 
 enum-told : tie.Need-enum-told
 enum-told c = search needs
@@ -48,9 +44,9 @@ enum-told c = search needs
 write-front-requires : tie.Need-write-front-requires
 unfolding lengthNeeded
 write-front-requires c κs =
-    let stands = c .before .before .before .before .before .before .before .before .pre in
+    let stands = c .before .before .before .before .before .before .before .pre in
     record {
-      formed = stands .stopped .formed;
+      formed = stands .ended .formed;
       room = omega (arith, stands .room);
       small = ends-small _ _ _ _ _ stands;
     }
@@ -66,19 +62,18 @@ returns-2 c =
     let c4 = c .before .before .before .before in
     let c6 = c4 .before .before in
     let c8 = c6 .before .before in
-    let c11 = c8 .before .before .before in
-    let c13 = c11 .before .before in
-    let chosen : Bytes (c13 .args .q .now) = λ i _. c11 .shared-slice-known2 .given i .fits in
-    accepted-answers _ _ _ _ _ _ _ _ (chosen-release-lt _ chosen) (chosen-period-lt _ chosen) (c13 .pre)
-    (sym (c8 .judge .ensures) ∙ ap passNumbers (c6 .enum-told .given .1))
-    (c8 .before .needed .ensures) (c4 .write-front .ensures) (c .figures .ensures)
+    let c10 = c8 .before .before in
+    let start = c10 .before .before in
+    let chosen : Bytes (start .args .q .now) = λ i _. c10 .shared-slice-known2 .given i .fits in
+    accepted-answers _ _ _ _ _ _ _ _ (chosen-release-lt _ chosen) (chosen-period-lt _ chosen) (start .pre)
+    (sym (start .pre .ended .refusal) ∙ ap passNumbers (c6 .enum-told .given .1))
+    (c8 .needed .ensures) (c4 .write-front .ensures) (c .figures .ensures)
 
 pub conclude-spec : {M : Type 1} → statement M
 conclude-spec =
     tie.close
     (tie.spec
     needed-requires
-    judge-requires
     enum-known-judged
     cast-clear
     clear-requires

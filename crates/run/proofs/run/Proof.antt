@@ -4,7 +4,9 @@ use mathlib.Core.Path.{sym, ap, _∙_}
 use borrow.Author.Needs.{needs}
 use Rattle.records.specs.Reads.{modelReadNumbers, choiceReadNumbers}
 use Rattle.records.proofs.Reading.{answer-refuses, answer-accepts}
-use Rattle.run.proofs.RunLaws.{model-breaks, model-holds, input-refused, input-passed, form-says}
+use Rattle.laws.proofs.Formed.{form-holds}
+use Rattle.laws.proofs.VerdictLaws.{model-breaks, model-holds}
+use Rattle.run.proofs.RunLaws.{input-refused, input-passed}
 use Rattle.run.proofs.run.Statement.{statement}
 use Rattle.run.proofs.run.Tie as tie
 
@@ -43,7 +45,7 @@ enum-told-2 c = search needs
 attempt-requires : tie.Need-attempt-requires
 attempt-requires c κs =
     let c4 = c .before .before .before .before in
-    form-says _ (answer-accepts _ _ _ (sym (ap modelReadNumbers (c4 .enum-told .given .1)) ∙ c4 .before .before .read .ensures))
+    form-holds _ (answer-accepts _ _ _ (sym (ap modelReadNumbers (c4 .enum-told .given .1)) ∙ c4 .before .before .read .ensures))
 
 same-length : tie.Need-same-length
 same-length c = search needs

@@ -17,7 +17,7 @@ use Rattle.run.proofs.plan.write_front.Tie as tie
 
 -- an entry of a table
 started : (l : List ℕ) (f : ℕ → ℕ) → l ≡ table 32 f → (a : ℕ) → a < 32 → getD l a 0 ≡ f a
-started l f e a k = ap (λ (t : List ℕ). getD t a 0) e ∙ getD-table 32 f a k
+started l f e a k = ap (λ (t : List ℕ). getD t a 0) e ∙ getD-table 0 32 f a k
 
 counts-requires : tie.Need-counts-requires
 counts-requires c κs = search needs

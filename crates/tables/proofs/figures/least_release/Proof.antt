@@ -1,24 +1,25 @@
 -- `tables::figures::least_release` meets its contract: the least release of the threads passed. Assumes nothing.
-use Prim.Native.Nat.{_≤_, _-_, min}
+use Prim.Native.Nat.{ℕ, _≤_, _-_, min}
 use native.Mathlib.Omega.{arith}
 use mathlib.Core.Path.{_≡_, sym, ap, ap₂, _∙_}
 use Rattle.schedule.specs.Bounded.{least}
-use Rattle.schedule.specs.Plan.{plan}
 use Rattle.laws.proofs.Steps.{least-next, least-start, least-none}
+use Rattle.tables.specs.Releases.{releasesOf}
 use borrow.Author.Needs.{needs}
 use Rattle.tables.proofs.figures.least_release.Statement.{statement}
 use Rattle.tables.proofs.figures.least_release.Tie as tie
 
 abbrev Inv-loop : tie.InvT-loop
-Inv-loop r n first₀ j₀ first j = (1 ≤ j) × (j ≤ n) × (first ≡ least j (plan r .release))
+Inv-loop whose r n first₀ j₀ first j = (1 ≤ j) × (j ≤ n) × (first ≡ least j (releasesOf whose r))
 
 abbrev μ-loop : tie.MeasureT-loop
-μ-loop r n first₀ j₀ first j = n - j
+μ-loop whose r n first₀ j₀ first j = n - j
 
 returns : tie.Need-returns Inv-loop μ-loop
 returns c =
-    let p = plan (c .before .before .args .r .now) in
-    sym (least-none (p .release)) ∙ ap (λ k. least k (p .release)) (sym (c .if1 .taken))
+    let x = c .before .before .args in
+    let releases : ℕ → ℕ = releasesOf (x .whose) (x .r .now) in
+    sym (least-none releases) ∙ ap (λ k. least k releases) (sym (c .if1 .taken))
 
 release-of-requires : tie.Need-release-of-requires Inv-loop μ-loop
 release-of-requires c κs = search needs
@@ -26,7 +27,7 @@ release-of-requires c κs = search needs
 loop-holds : tie.Need-loop-holds Inv-loop μ-loop
 loop-holds c =
     let x = c .before .before .before .args in
-    (omega arith, omega arith, c .release-of .ensures ∙ sym (least-start (plan (x .r .now) .release)))
+    (omega arith, omega arith, c .release-of .ensures ∙ sym (least-start (releasesOf (x .whose) (x .r .now))))
 
 release-of-requires-2 : tie.Need-release-of-requires-2 Inv-loop μ-loop
 release-of-requires-2 c κs = search needs
@@ -49,14 +50,14 @@ loop-again c =
       omega arith,
       c .smaller .ensures
           ∙ ap₂ min (l .inv .2) (c .before .release-of2 .ensures)
-          ∙ sym (least-next (l .j) (plan (x .r .now) .release) (l .inv .0)),
+          ∙ sym (least-next (l .j) (releasesOf (x .whose) (x .r .now)) (l .inv .0)),
     )
 
 returns-2 : tie.Need-returns-2 Inv-loop μ-loop
 returns-2 c =
     let x = c .before .before .before .before .before .args in
     let whole : c .before .loop .j ≡ x .n = omega arith in
-    c .before .loop .inv .2 ∙ ap (λ k. least k (plan (x .r .now) .release)) whole
+    c .before .loop .inv .2 ∙ ap (λ k. least k (releasesOf (x .whose) (x .r .now))) whole
 
 pub least-release-spec : {M : Type 1} → statement M
 least-release-spec =

@@ -1,4 +1,4 @@
--- `run::finish::first_owing` meets its contract: no activity passed owes anything.
+-- `machine::ending::first_owing` meets its contract: no activity passed owes anything.
 -- Assumes nothing.
 use Prim.Native.Nat.{ℕ, _≤_, _-_}
 use native.Mathlib.Omega.{arith}
@@ -7,9 +7,9 @@ use mathlib.Core.Path.{sym, ap}
 use lib.Dec.{eqb}
 use lib.ListN.{getD}
 use borrow.Author.Tests.{eq-eqb, ne-eqb}
-use Rattle.run.proofs.PlanLaws.{Clear, clear-none, clear-more, found-here, found-none}
-use Rattle.run.proofs.finish.first_owing.Statement.{statement}
-use Rattle.run.proofs.finish.first_owing.Tie as tie
+use Rattle.laws.proofs.Lowest.{Clear, clear-none, clear-more, found-here, found-none}
+use Rattle.machine.proofs.ending.first_owing.Statement.{statement}
+use Rattle.machine.proofs.ending.first_owing.Tie as tie
 
 abbrev Inv-loop : tie.InvT-loop
 Inv-loop n owed a₀ a = (a ≤ n) × Clear (λ a. not (eqb (getD owed a 0) 0)) a

@@ -17,8 +17,7 @@ ghost use Rattle.schedule.specs.Rule.{firstBreak};
 ghost use Rattle.schedule.specs.Answers.{runRules};
 ghost use Rattle.schedule.specs.Numbers.{refusalNumbers, runNumber};
 ghost use Rattle.records.specs.Reads.{passNumbers, refusalIn};
-ghost use Rattle.run.specs.Outcome.{Stopped};
-ghost use Rattle.run.specs.Front.{inTimeFrom};
+ghost use Rattle.machine.specs.Ending.{Stopped, inTimeFrom};
 
 // "42 something owed after tick H − 1; A the lowest such activity": that activity of the first n, n where none owes.
 fn first_owing(n: usize, owed: &[u32; 32]) -> usize
@@ -52,7 +51,7 @@ fn first_late(n: usize, releases: &[u32; 32], periods: &[u32; 32], ends: &[u32; 
 }
 
 // "A refusal answers its number, A and B", B not named.
-pub(crate) fn refusal(why: RunRefusal, a: u32) -> Refusal
+fn refusal(why: RunRefusal, a: u32) -> Refusal
     ensures { λ r. ⌜ refusalNumbers r ≡ refusalIn (runNumber why) a ⌝ }
 {
     Refusal::Run(why, Place { a, b: 0 })

@@ -1,4 +1,4 @@
--- `run::finish::judge` meets its contract: the lowest activity that owes, then the lowest that is late, are the breaks of 42 and 43.
+-- `machine::ending::judge` meets its contract: the lowest activity that owes, then the lowest that is late, are the breaks of 42 and 43.
 -- Assumes nothing.
 use native.Mathlib.Omega.{arith}
 use mathlib.Core.Option.{Option, some}
@@ -9,9 +9,9 @@ use Rattle.records.specs.Rows.{sizesOf}
 use Rattle.records.specs.declared.model.Sizes.{Sizes}
 use Rattle.tables.specs.Columns.{columnOf}
 use Rattle.tables.proofs.TableLaws.{by-table}
-use Rattle.run.proofs.RunLaws.{owed-first, late-first, none-late}
-use Rattle.run.proofs.finish.judge.Statement.{statement}
-use Rattle.run.proofs.finish.judge.Tie as tie
+use Rattle.machine.proofs.EndingLaws.{owed-first, late-first, none-late}
+use Rattle.machine.proofs.ending.judge.Statement.{statement}
+use Rattle.machine.proofs.ending.judge.Tie as tie
 
 counts-requires : tie.Need-counts-requires
 counts-requires c κs = search needs
@@ -23,7 +23,7 @@ first-owing-requires : tie.Need-first-owing-requires
 unfolding sizesOf
 first-owing-requires c κs =
     let c4 = c .before .before .before .before in
-    omega (arith, ap (λ (r : Sizes). r .activities) (c .before .counts .ensures), c4 .pre .formed .activities .1)
+    omega (arith, ap (λ (r : Sizes). r .activities) (c .before .counts .ensures), c4 .pre .few)
 
 cast-refusal : tie.Need-cast-refusal
 cast-refusal c = search needs
@@ -51,7 +51,7 @@ first-late-requires : tie.Need-first-late-requires
 unfolding sizesOf
 first-late-requires c κs =
     let c7 = c .before .before .before .before .before .before .before in
-    omega (arith, ap (λ (r : Sizes). r .activities) (c7 .counts .ensures), c7 .before .before .before .pre .formed .activities .1)
+    omega (arith, ap (λ (r : Sizes). r .activities) (c7 .counts .ensures), c7 .before .before .before .pre .few)
 
 cast-refusal-2 : tie.Need-cast-refusal-2
 cast-refusal-2 c = search needs
@@ -67,7 +67,7 @@ returns-2 c =
     let c8 = c6 .before .before in
     let c10 = c8 .before .before in
     let start = c10 .before .before .before in
-    let few = start .pre .formed .activities .1 in
+    let few = start .pre .few in
     ap {B = Option Refusal} some (c .refusal2 .ensures)
     ∙ sym (late-first _ _ _ _ (start .pre) _ (ap (λ (r : Sizes). r .activities) (c10 .counts .ensures)) _ _ _ _
     (by-table _ _ _ few (c6 .table .ensures)) (by-table _ _ _ few (c2 .before .before .before .table2 .ensures))
@@ -80,7 +80,7 @@ returns-3 c =
     let c7 = c5 .before .before in
     let c9 = c7 .before .before in
     let start = c9 .before .before .before in
-    let few = start .pre .formed .activities .1 in
+    let few = start .pre .few in
     sym (none-late _ _ _ _ (start .pre) _ (ap (λ (r : Sizes). r .activities) (c9 .counts .ensures)) _ _ _ _
     (by-table _ _ _ few (c5 .table .ensures)) (by-table _ _ _ few (c .before .before .before .before .table2 .ensures))
     (c7 .first-owing .ensures) (c5 .before .if1 .left) (c .before .first-late .ensures) (c .if2 .left))

@@ -1,14 +1,14 @@
--- `run::finish::first_late` meets its contract: every activity passed keeps its deadline. Assumes nothing.
+-- `machine::ending::first_late` meets its contract: every activity passed keeps its deadline. Assumes nothing.
 use native.Mathlib.Omega.{arith}
 use Prim.Native.Nat.{ℕ, _≤_, _-_}
 use mathlib.Core.Bool.{Bool, not}
 use mathlib.Core.Path.{sym, subst, ap}
 use lib.Dec.{T}
-use Rattle.run.specs.Front.{inTimeFrom}
-use Rattle.run.proofs.PlanLaws.{Clear, clear-none, clear-more, found-here, found-none}
+use Rattle.machine.specs.Ending.{inTimeFrom}
+use Rattle.laws.proofs.Lowest.{Clear, clear-none, clear-more, found-here, found-none}
 use borrow.Author.Needs.{needs}
-use Rattle.run.proofs.finish.first_late.Statement.{statement}
-use Rattle.run.proofs.finish.first_late.Tie as tie
+use Rattle.machine.proofs.ending.first_late.Statement.{statement}
+use Rattle.machine.proofs.ending.first_late.Tie as tie
 
 abbrev Inv-loop : tie.InvT-loop
 Inv-loop n releases periods ends a₀ a = (a ≤ n) × Clear (λ a. not (inTimeFrom releases periods ends a)) a
