@@ -1,14 +1,17 @@
--- The printed text fits. For every input gridcheck's two lines have at most 97 bytes, and gridrun's page has at most
--- 57,390: 14 for each of 4096 ticks and 46 for the last line. So the programs' arrays hold them.
+-- The printed text fits. For every input gridcheck's two lines have at most 97 bytes; gridrun's page has at most 57,390, 14
+-- for each of 4096 ticks and 46 for the last line; and gridlate's lines have at most 366, 10 for each of 32 activities and
+-- again 46. So the programs' arrays hold them.
 -- Assumes nothing.
-use Prim.Native.Nat.{ℕ, _^_, _≤_}
+use Prim.Native.Nat.{ℕ, _^_, _≤_, _<_}
 use native.Mathlib.Decide.{decLt}
 use native.Mathlib.Nat.{mul-le-mul}
 use native.Mathlib.Omega.{arith}
+use mathlib.Core.Bool.{Bool, true, false}
 use mathlib.Core.List.{List, [], _∷_, _++_}
 use mathlib.Core.Logic.{⊎-elim}
-use mathlib.Core.Path.{_≡_, refl, ap, subst, _∙_}
-use lib.ListN.{length, length-append, length-replicate, replicate}
+use mathlib.Core.Path.{_≡_, refl, sym, ap, subst, _∙_}
+use lib.IntN.{ℤ, pos}
+use lib.ListN.{length, getD, length-append, length-replicate, replicate}
 use Rattle.schedule.specs.Bounded.{bit, ones}
 use Rattle.schedule.specs.declared.FormRefusal.{FormRefusal}
 use Rattle.schedule.specs.Fields.{Bytes}
@@ -22,15 +25,20 @@ use Rattle.schedule.specs.Checks.{rulesOf, furtherOrder, plainRules, strictRule
 use Rattle.schedule.specs.Answers.{Answer, accepted, refused, Figures, figures, Written, lengthNeeded, machinePlan}
 use Rattle.schedule.specs.Answers.{plainChecks, strictChecks, plainVerdict, strictVerdict}
 use Rattle.schedule.specs.Answers.{owedRule, runRules, runChecks, runAnswer}
+use Rattle.schedule.specs.Report.{rowsNeeded, reportAnswer, fills, reportRows}
 use Rattle.schedule.specs.Streams.{taken, firstRecord, secondRecord}
-use Rattle.schedule.specs.Lines.{runRoom, runLines, gridcheck, gridrun}
+use Rattle.schedule.specs.Lines.{runRoom, lastLine, runLines, rowText, lateLines, gridcheck, gridrun, gridlate}
 use Rattle.laws.proofs.Counting.{count-le}
 use Rattle.laws.proofs.Sums.{greatest-bound, total-bound}
 use Rattle.schedule.specs.Numbers.{formNumber}
 use Rattle.laws.proofs.FirstBreak.{AllSound, some-iff, append-some, sound-append, hold-append, hold-or-broken, says}
 use Rattle.laws.proofs.Sound.{plainChecks-sound, strictChecks-sound, runChecks-sound}
+use Rattle.laws.proofs.VerdictLaws.{input-number, report-from-input, report-answer}
 use Rattle.laws.proofs.RuleNumbers.{AllRules, rules-append, first-broken-rule}
 use Rattle.laws.proofs.Opened.{form-rules, check-rules}
+use Rattle.laws.proofs.Ranges.{chosen-release-lt, chosen-period-lt}
+use Rattle.laws.proofs.Formed.{model-says}
+use Rattle.laws.proofs.LatenessLaws.{rows-filled, rows-at}
 use Rattle.laws.proofs.LinesLaws.{second-bytes}
 use Rattle.laws.proofs.LineLengths.{
   Short,
@@ -40,6 +48,8 @@ use Rattle.laws.proofs.LineLengths.{
   shown-most,
   check-most,
   length-ticks,
+  late-most,
+  row-most,
 }
 use Rattle.demands.proofs.Demand2.{
   plain-accepted,
@@ -245,6 +255,11 @@ run-short s q room bytes = by (runAnswer s q room) refl
         (subst (FirstBroken (runChecks s q)) same (b .1)))
         (run-input s q)
 
+-- its last line
+last-most : (v : Answer Written) → ShortRun v → length (lastLine v) ≤ 46
+last-most (accepted w) h = omega (arith, shown-most (accepted (w .figures)) h)
+last-most (refused x) h = omega (arith, shown-most (refused x) h)
+
 -- gridrun's page has at most 57,390 bytes
 pub gridrun-fits : (input : List ℕ) → Bytes input → length (gridrun input) ≤ 57390
 unfolding gridrun runLines machinePlan runChecks
@@ -263,6 +278,59 @@ gridrun-fits input bytes =
           arith,
           l .1 .1 .1,
           length-ticks (model s .horizon) (machinePlan (model s) (choice q) .word) (omega arith),
-          shown-most (accepted (w .figures)) h,
+          last-most (accepted w) h,
         ))
-    by s q (refused x) e h = omega (arith, shown-most (refused x) h)
+    by s q (refused x) e h = omega (arith, last-most (refused x) h)
+
+-- ---- the report
+
+-- it answers as a run with room enough does
+report-short : (s q : List ℕ) → Bytes q → ShortRun (reportAnswer s q rowsNeeded)
+report-short s q bytes =
+    subst ShortRun (sym (report-answer s q rowsNeeded (lengthNeeded (model s)) (omega arith) (omega arith)))
+    (run-short s q (lengthNeeded (model s)) bytes)
+
+-- where the rows are filled, the input rules hold: none of them is 43
+filled-checked : (s q : List ℕ) (lent : ℕ) → fills (reportAnswer s q lent) ≡ true → AllHold (runChecks s q)
+filled-checked s q lent e =
+    ⊎-elim (λ h. h)
+    (λ b.
+    let found = some-iff (runChecks s q) (b .0) (runChecks-sound s q) .1 (b .1) in
+    let never : _≡_ {A = Bool} true false =
+    sym e ∙ ap fills (report-from-input s q lent (b .0) found) ∙ input-number s q (b .0) found .1 in
+    let z : _≡_ {A = ℕ} 0 1 = cc in
+    absurd (omega arith))
+    (run-input s q)
+
+-- the last line alone, or behind the lines of at most 32 rows of at most 6 bytes
+lines-fit : (v : Answer Written) (n : ℕ) (rows : List ℤ) (b : Bool) → fills v ≡ b → ShortRun v
+    → (fills v ≡ true → (n ≤ 32) × ((a : ℕ) → a < n → length (rowText (getD rows a (pos 0))) ≤ 6))
+    → length (lateLines v n rows) ≤ 366
+unfolding lateLines
+lines-fit v n rows true e short h =
+    rw (e, lateLines)
+    (simp length-append
+    (omega (
+      arith,
+      h e .0,
+      late-most n 6 (λ a. getD rows a (pos 0)) (omega (arith, h e .0)) (h e .1),
+      last-most v short,
+    )))
+lines-fit v n rows false e short h = rw (e, lateLines) (omega (arith, last-most v short))
+
+-- gridlate's lines have at most 366 bytes
+pub gridlate-fits : (input : List ℕ) → Bytes input → length (gridlate input) ≤ 366
+unfolding gridlate reportRows runChecks
+gridlate-fits input bytes = by (firstRecord (taken input)) (secondRecord (taken input)) (second-bytes input bytes)
+  where
+    by : (s q : List ℕ) → Bytes q
+        → length (lateLines (reportAnswer s q rowsNeeded) (model s .activities) (reportRows s q (replicate rowsNeeded (pos 0)))) ≤ 366
+    by s q b =
+        let v : Answer Written = reportAnswer s q rowsNeeded in
+        lines-fit v (model s .activities) (reportRows s q (replicate rowsNeeded (pos 0))) (fills v) refl (report-short s q b) (λ e.
+        let formed = model-says s (hold-append (modelForm s) (choiceForm (model s) q) .0 (filled-checked s q rowsNeeded e) .0) in (
+          formed .activities .1,
+          λ a l.
+              rw (rows-filled v (model s) (choice q) (replicate rowsNeeded (pos 0)) e, rows-at (pos 0) (model s .activities) _ _ a l)
+              (row-most (model s) (choice q) a l (formed .horizon .1) (chosen-release-lt q b) (chosen-period-lt q b)),
+        ))

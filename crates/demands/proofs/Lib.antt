@@ -5,3 +5,5 @@ pub mod AtS
 pub mod Page
 pub mod Fits
 pub mod Consequences
+pub mod Lateness
+pub mod WrongReports

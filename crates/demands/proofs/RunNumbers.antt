@@ -12,17 +12,17 @@ use lib.Dec.{ltb}
 use lib.ListN.{length}
 use borrow.Author.Tests.{lt-ltb, le-ltb}
 use Rattle.schedule.specs.Rule.{Refusal, firstBreak}
-use Rattle.schedule.specs.Model.{Model, model, modelForm}
-use Rattle.schedule.specs.Choice.{Choice, choice, choiceForm}
+use Rattle.schedule.specs.Model.{Model, model}
+use Rattle.schedule.specs.Choice.{Choice, choice}
 use Rattle.schedule.specs.Timing.{deadlineRule}
 use Rattle.schedule.specs.Answers.{Answer, refused, answer, owedRule, runRules, runChecks, Written, written, lengthNeeded}
 use Rattle.schedule.specs.Answers.{Outcome, from-input, from-buffer, from-run, succeeded, concluded, outcome, runOutcome}
 use Rattle.schedule.specs.Answers.{answerOf, runAnswer, bufferAfter, runBuffer}
 use Rattle.laws.proofs.FirstBreak.{none-iff, some-iff, _&_}
 use Rattle.laws.proofs.Sound.{runRules-sound, runChecks-sound}
-use Rattle.laws.proofs.RuleNumbers.{AllNumbers, rules-append, first-broken-number}
-use Rattle.laws.proofs.Opened.{form-rules}
+use Rattle.laws.proofs.RuleNumbers.{AllNumbers, first-broken-number}
 use Rattle.laws.proofs.VerdictLaws.{
+  input-number,
   run-from-input,
   run-past-input,
   outcome-short,
@@ -66,12 +66,6 @@ KindNumbered (from-buffer x) = zeroing (x .number) ≡ false
 KindNumbered (from-run x) = zeroing (x .number) ≡ true
 KindNumbered (succeeded w) = Unit {0}
 
-input-numbers : (s q : List ℕ) → AllNumbers (λ k. zeroing k ≡ false) (runChecks s q)
-unfolding runChecks modelForm choiceForm form-rules
-input-numbers s q =
-    rules-append (λ r. zeroing (r .number) ≡ false) (modelForm s) (choiceForm (model s) q)
-    (refl & refl & refl & refl & refl & refl & refl & tt) (refl & refl & refl & refl & refl & refl & tt)
-
 run-numbers : (m : Model) (q : Choice) → AllNumbers (λ k. zeroing k ≡ true) (runRules m q)
 unfolding runRules owedRule deadlineRule
 run-numbers m q = refl & refl & tt
@@ -99,8 +93,7 @@ run-numbered s q room = by (firstBreak (runChecks s q)) refl
     by none e = subst KindNumbered (sym (run-past-input s q room e)) (outcome-numbered (model s) (choice q) room)
     by (some x) e =
         subst KindNumbered (sym (run-from-input s q room x e))
-        (first-broken-number (λ k. zeroing k ≡ false) (runChecks s q) x (input-numbers s q)
-        (some-iff (runChecks s q) x (runChecks-sound s q) .0 e))
+        (let n = input-number s q x e in rw (n .0, n .1))
 
 -- The lent buffer after the run is what the number that it answers says.
 pub buffer-by-number : (s q buffer : List ℕ)

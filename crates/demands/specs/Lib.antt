@@ -1,3 +1,4 @@
 pub mod Strict
 pub mod Efe
 pub mod ByNumber
+pub mod Lateness

@@ -13,12 +13,14 @@ pub mod PlanForm
 pub mod Opened
 pub mod FirstBreak
 pub mod Deadlines
+pub mod LatenessLaws
 pub mod Sound
-pub mod VerdictLaws
 pub mod RuleNumbers
+pub mod VerdictLaws
 pub mod Selection
 pub mod MachineLaws
 pub mod MachinePlan
+pub mod Usage
 pub mod EfeLaws
 pub mod Unique
 pub mod Exists

@@ -6,11 +6,17 @@ use native.Mathlib.Nat.{pow-zero, pow-suc}
 use native.Mathlib.Omega.{arith}
 use mathlib.Core.List.{[], _∷_}
 use mathlib.Core.Path.{_≡_, refl}
+use lib.IntN.{ℤ, pos, negsuc}
 use lib.ListN.{length, length-append}
+use borrow.Author.Tests.{ne-eqb}
 use Rattle.schedule.specs.Bounded.{chain}
 use Rattle.schedule.specs.Rule.{Refusal}
+use Rattle.schedule.specs.Model.{Model}
+use Rattle.schedule.specs.Choice.{Choice}
 use Rattle.schedule.specs.Answers.{Answer, accepted, refused, Figures}
-use Rattle.schedule.specs.Lines.{decimal, hex, three, shown, checkLines, tickLine}
+use Rattle.schedule.specs.Report.{dash, reportRow}
+use Rattle.schedule.specs.Lines.{decimal, hex, three, shown, checkLines, tickLine, signed, rowText, lateLine}
+use Rattle.laws.proofs.LatenessLaws.{row-holds}
 use Rattle.laws.proofs.LinesLaws.{decimal-small, decimal-large}
 
 -- ---- numbers
@@ -67,6 +73,49 @@ length-ticks (suc h) word l =
       length-tick h (word h),
       length-most 3 h (omega arith),
     ))
+
+-- ---- the report's lines
+
+length-late : (a : ℕ) (z : ℤ) → length (lateLine a z) ≡ length (decimal a) + length (rowText z) + 2
+unfolding lateLine
+length-late a z = simp length-append (omega arith)
+
+-- those of at most a hundred activities have at most 4 bytes each beside the rows
+pub late-most : (n k : ℕ) (row : ℕ → ℤ) → n ≤ 100 → ((a : ℕ) → a < n → length (rowText (row a)) ≤ k)
+    → length (chain n (λ a. lateLine a (row a))) ≤ (4 + k) * n
+unfolding chain
+late-most zero k row l h = omega arith
+late-most (suc n) k row l h =
+    simp length-append
+    (omega (
+      arith,
+      late-most n k row (omega arith) (λ a j. h a (omega arith)),
+      length-late n (row n),
+      length-most 1 n (omega arith),
+      h n (omega arith),
+    ))
+
+kept-most : (n : ℕ) → n < 1000000 → length (rowText (pos n)) ≤ 6
+unfolding rowText signed
+kept-most n h = length-most 5 n h
+
+overdue-most : (n : ℕ) → n < 99999 → length (rowText (negsuc n)) ≤ 6
+unfolding rowText signed
+overdue-most n h =
+    rw (ne-eqb n 2147483647 (λ (e : n ≡ 2147483647). omega arith), rowText) (omega (arith, length-most 4 (suc n) (omega arith)))
+
+dash-most : length (rowText dash) ≤ 6
+unfolding rowText
+dash-most = omega arith
+
+-- a row has at most 6 bytes, where H is at most 4096 and releases and periods have two bytes
+pub row-most : (m : Model) (q : Choice) (a : ℕ) → a < m .activities → m .horizon ≤ 4096
+    → ((j : ℕ) → q .release j < 65536) → ((j : ℕ) → q .period j < 65536) → length (rowText (reportRow m q a)) ≤ 6
+row-most m q a l short releases periods =
+    row-holds m q a l (λ z. length (rowText z) ≤ 6) 131072 (λ j. omega (arith, releases j, periods j)) dash-most
+    (λ n h. overdue-most n (omega arith)) (λ n h. kept-most n (omega arith))
+
+-- ---- verdicts
 
 -- a number of at most 10 digits
 abbrev pub Short : ℕ → Type 0

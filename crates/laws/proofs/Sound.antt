@@ -8,11 +8,12 @@ use Rattle.schedule.specs.declared.RuleRefusal.{RuleRefusal}
 use Rattle.schedule.specs.Rule.{Rule}
 use Rattle.schedule.specs.Model.{Model, model, modelForm}
 use Rattle.schedule.specs.Timing.{deadlineRule}
-use Rattle.schedule.specs.Choice.{Choice, choiceForm}
+use Rattle.schedule.specs.Choice.{Choice, choice, choiceForm}
 use Rattle.schedule.specs.Plan.{Plan, plan, planForm}
 use Rattle.schedule.specs.Checks.{Window, window, Waiting, waits}
 use Rattle.schedule.specs.Checks.{ruleOf, rulesOf, plainOrder, strictOrder, plainRules, strictRules}
 use Rattle.schedule.specs.Answers.{owedRule, runRules, plainChecks, strictChecks, runChecks}
+use Rattle.schedule.specs.Report.{rowsRule, reportRules}
 use Rattle.laws.proofs.Tests.{tests}
 use Rattle.laws.proofs.Deadlines.{in-time-sound}
 use Rattle.laws.proofs.Opened.{form-rules, check-rules}
@@ -115,3 +116,13 @@ strictChecks-sound s r = check-sound s r _ (strictRules-sound (model s) (plan r)
 pub runChecks-sound : (s q : List ℕ) → AllSound (runChecks s q)
 unfolding runChecks
 runChecks-sound s q = sound-append (modelForm s) _ .1 (modelForm-sound s, choiceForm-sound (model s) q)
+
+-- and of the report
+rowsRule-sound : (lent : ℕ) → Sound (rowsRule lent)
+unfolding rowsRule
+rowsRule-sound lent = simp whole (same _)
+
+pub reportRules-sound : (s q : List ℕ) (lent : ℕ) → AllSound (reportRules s q lent)
+unfolding reportRules
+reportRules-sound s q lent =
+    sound-append (runChecks s q) _ .1 (runChecks-sound s q, rowsRule-sound lent & runRules-sound (model s) (choice q))

@@ -1,16 +1,18 @@
 -- Sums and extremes depend on the values below their bound alone, and so do a plan's figures on its words, ends and
--- releases.
+-- releases. A sum of sums may be taken in either order.
 -- Assumes nothing.
 use Prim.Native.Nat.{ℕ, zero, suc, _+_, _-_, _*_, _≤_, _<_, max, min}
 use native.Mathlib.Nat.{mul-suc}
 use native.Mathlib.Omega.{arith}
+use mathlib.Core.Bool.{Bool}
 use mathlib.Core.Logic.{⊎-elim}
 use mathlib.Core.Path.{_≡_, refl, ap, ap₂}
-use Rattle.schedule.specs.Bounded.{total, greatest, least, ones}
+use Rattle.schedule.specs.Bounded.{count, total, greatest, least, ones}
 use Rattle.schedule.specs.Model.{Model}
 use Rattle.schedule.specs.Plan.{Plan}
 use Rattle.schedule.specs.Answers.{figures}
 use Rattle.laws.proofs.Tests.{below-suc}
+use Rattle.laws.proofs.Counting.{weight}
 
 pub greatest-ext : (n : ℕ) (f g : ℕ → ℕ) → ((i : ℕ) → i < n → f i ≡ g i) → greatest n f ≡ greatest n g
 unfolding greatest
@@ -41,6 +43,27 @@ unfolding total
 total-bound zero f k h = omega arith
 total-bound (suc n) f k h =
     omega (arith, mul-suc k n, total-bound n f k (λ i l. h i (omega arith)), h n (omega arith))
+
+total-add : (n : ℕ) (f g : ℕ → ℕ) → total n (λ i. f i + g i) ≡ total n f + total n g
+unfolding total
+total-add zero f g = refl
+total-add (suc n) f g = omega (arith, total-add n f g)
+
+-- a sum of sums, taken in the other order
+total-exchange : (n k : ℕ) (f : ℕ → ℕ → ℕ) → total n (λ i. total k (f i)) ≡ total k (λ j. total n (λ i. f i j))
+unfolding total
+total-exchange zero k f = omega (arith, total-bound k (λ _. 0) 0 (λ _ _. omega arith))
+total-exchange (suc n) k f = omega (arith, total-exchange n k f, total-add k (λ j. total n (λ i. f i j)) (f n))
+
+-- a count is a sum of ones
+count-total : (n : ℕ) (p : ℕ → Bool) → count n p ≡ total n (λ i. weight (p i))
+unfolding count total
+count-total zero p = refl
+count-total (suc n) p = omega (arith, count-total n p)
+
+-- pairs counted by their first number are as many as counted by their second
+pub count-exchange : (n k : ℕ) (p : ℕ → ℕ → Bool) → total n (λ i. count k (p i)) ≡ total k (λ j. count n (λ i. p i j))
+count-exchange n k p = simp count-total (total-exchange n k (λ i j. weight (p i j)))
 
 pub least-each : (n : ℕ) (f : ℕ → ℕ) (i : ℕ) → i < n → least n f ≤ f i
 unfolding least

@@ -1,23 +1,29 @@
 -- What the verdict on a list of rules says of the rules, and of the rules that stand behind the two records' form.
 -- Assumes nothing.
 use Prim.Native.Nat.{ℕ, _≤_, _<_}
-use mathlib.Core.List.{List, _++_, append-assoc}
+use mathlib.Core.Bool.{false}
+use mathlib.Core.List.{List, _∷_, _++_, append-assoc}
 use mathlib.Core.Logic.{_↔_, Iff·and, Iff·trans, Iff·rfl}
 use mathlib.Core.Option.{Option, some, none, Option·some-ne-none, Option·none-ne-some}
 use mathlib.Core.Path.{_≡_, refl, sym, _∙_, ap}
 use native.Mathlib.Omega.{arith}
-use borrow.Author.Tests.{lt-ltb, le-ltb}
-use Rattle.schedule.specs.Rule.{Rule, Refusal, firstBreak, AllHold, FirstBroken}
+use lib.Dec.{eqb}
+use borrow.Author.Tests.{lt-ltb, le-ltb, lt-leb, le-leb}
+use Rattle.schedule.specs.Bounded.{first}
+use Rattle.schedule.specs.Rule.{Rule, Refusal, break, firstBreak, AllHold, FirstBroken}
 use Rattle.schedule.specs.Model.{Model, model, modelForm}
-use Rattle.schedule.specs.Choice.{Choice, choice}
+use Rattle.schedule.specs.Choice.{Choice, choice, choiceForm}
 use Rattle.schedule.specs.Plan.{plan, planForm}
 use Rattle.schedule.specs.Checks.{rulesOf, plainOrder, furtherOrder, plainRules, strictRules}
 use Rattle.schedule.specs.Answers.{Answer, accepted, refused, answer, figures}
 use Rattle.schedule.specs.Answers.{plainChecks, strictChecks, plainVerdict, strictVerdict}
 use Rattle.schedule.specs.Answers.{runRules, lengthNeeded, written, runChecks, answerOf, runAnswer}
 use Rattle.schedule.specs.Answers.{from-input, from-buffer, from-run, succeeded, concluded, outcome, runOutcome}
-use Rattle.laws.proofs.FirstBreak.{AllSound, none-iff, some-iff, append-none}
+use Rattle.schedule.specs.Report.{rowsNeeded, rowsRule, reportRules, reportAnswer}
+use Rattle.laws.proofs.FirstBreak.{AllSound, none-iff, some-iff, append-none, append-some, _&_}
 use Rattle.laws.proofs.Named.{rulesOf-append}
+use Rattle.laws.proofs.Opened.{form-rules}
+use Rattle.laws.proofs.RuleNumbers.{AllNumbers, rules-append, first-broken-number}
 use Rattle.laws.proofs.Sound.{modelForm-sound, planForm-sound, runChecks-sound}
 
 -- a call answers a pass, or a refusal, and never both
@@ -87,6 +93,31 @@ pub strict-extends : (s r : List ℕ) → strictChecks s r ≡ plainChecks s r +
 unfolding strictChecks plainChecks strictRules plainRules
 strict-extends s r = rw (rulesOf-append (model s) (plan r) plainOrder furtherOrder) (simp append-assoc)
 
+-- a number that 42 and 43 are not
+abbrev pub OfInput : ℕ → Type 0
+OfInput k = (eqb k 42 ≡ false) × (eqb k 43 ≡ false)
+
+-- the input rules of the run and of the report: the model's, then the choice's
+module _ (s q : List ℕ) where
+  pub model-breaks : (x : Refusal) → firstBreak (modelForm s) ≡ some x → firstBreak (runChecks s q) ≡ some x
+  unfolding runChecks
+  model-breaks x e = append-some (modelForm s) (choiceForm (model s) q) x e
+
+  pub model-holds : firstBreak (modelForm s) ≡ none → firstBreak (runChecks s q) ≡ firstBreak (choiceForm (model s) q)
+  unfolding runChecks
+  model-holds e = append-none (modelForm s) (choiceForm (model s) q) e
+
+  -- none of them is numbered 42 or 43
+  input-numbers : AllNumbers OfInput (runChecks s q)
+  unfolding runChecks modelForm choiceForm form-rules
+  input-numbers =
+      rules-append (λ r. OfInput (r .number)) (modelForm s) (choiceForm (model s) q)
+      ((refl, refl) & (refl, refl) & (refl, refl) & (refl, refl) & (refl, refl) & (refl, refl) & (refl, refl) & tt) ((refl, refl) & (refl, refl) & (refl, refl) & (refl, refl) & (refl, refl) & (refl, refl) & tt)
+
+  pub input-number : (x : Refusal) → firstBreak (runChecks s q) ≡ some x → OfInput (x .number)
+  input-number x e =
+      first-broken-number OfInput (runChecks s q) x input-numbers (some-iff (runChecks s q) x (runChecks-sound s q) .0 e)
+
 -- how the run ends: by the first break of its input rules
 pub run-from-input : (s q : List ℕ) (room : ℕ) (x : Refusal) → firstBreak (runChecks s q) ≡ some x
     → runOutcome s q room ≡ from-input x
@@ -140,3 +171,41 @@ unfolding runAnswer
 run-verdict s q room h l =
     ap answerOf (run-outcome s q room h ∙ outcome-fits (model s) (choice q) room l)
     ∙ concluded-answer (model s) (choice q)
+
+-- what the report answers: by the first break of its input rules
+pub report-from-input : (s q : List ℕ) (lent : ℕ) (x : Refusal) → firstBreak (runChecks s q) ≡ some x
+    → reportAnswer s q lent ≡ refused x
+unfolding reportAnswer reportRules answer
+report-from-input s q lent x e = ap (λ o. answer o (written (model s) (choice q))) (append-some (runChecks s q) _ x e)
+
+-- behind them by 50, then by 42 and 43
+pub report-past-input : (s q : List ℕ) (lent : ℕ) → firstBreak (runChecks s q) ≡ none
+    → reportAnswer s q lent
+    ≡ answer (firstBreak (rowsRule lent ∷ runRules (model s) (choice q))) (written (model s) (choice q))
+unfolding reportAnswer reportRules
+report-past-input s q lent e = ap (λ o. answer o (written (model s) (choice q))) (append-none (runChecks s q) _ e)
+
+pub rows-short : (lent : ℕ) (rules : List Rule) → lent < rowsNeeded
+    → firstBreak (rowsRule lent ∷ rules) ≡ some (record { number = 50; A = 0; B = 0 })
+unfolding rowsRule firstBreak break first
+rows-short lent rules l = rw (lt-leb rowsNeeded lent l)
+
+pub rows-enough : (lent : ℕ) (rules : List Rule) → rowsNeeded ≤ lent → firstBreak (rowsRule lent ∷ rules) ≡ firstBreak rules
+unfolding rowsRule firstBreak break first
+rows-enough lent rules l = rw (le-leb rowsNeeded lent l)
+
+-- with rows enough it answers as the run with room enough does: "41 does not arise here"
+pub report-answer : (s q : List ℕ) (lent room : ℕ) → rowsNeeded ≤ lent → lengthNeeded (model s) ≤ room
+    → reportAnswer s q lent ≡ runAnswer s q room
+unfolding runAnswer answerOf
+report-answer s q lent room enough fits = by (firstBreak (runChecks s q)) refl
+  where
+    rules : List Rule
+    rules = runRules (model s) (choice q)
+
+    by : (o : Option Refusal) → firstBreak (runChecks s q) ≡ o → reportAnswer s q lent ≡ runAnswer s q room
+    by (some x) e = report-from-input s q lent x e ∙ sym (ap answerOf (run-from-input s q room x e))
+    by none e =
+        report-past-input s q lent e
+        ∙ ap (λ o. answer o (written (model s) (choice q))) (rows-enough lent rules enough)
+        ∙ sym (run-verdict s q room (none-iff (runChecks s q) (runChecks-sound s q) .0 e) fits)

@@ -4,9 +4,12 @@ use schedule::Numbered;
 use schedule::Refusal;
 use schedule::RuleRefusal;
 use schedule::RunRefusal;
+use schedule::RunVerdict;
 ghost use mathlib.Core.Path.{_≡_};
 ghost use Prim.Native.Nat.{_+_, _-_, max, min};
-ghost use Rattle.schedule.specs.Numbers.{formNumber, ruleNumber, runNumber, refusalNumbers, numbersOf};
+ghost use lib.IntN.{natAbs};
+ghost use Rattle.schedule.specs.Report.{fills};
+ghost use Rattle.schedule.specs.Numbers.{formNumber, ruleNumber, runNumber, refusalNumbers, numbersOf, runNumbers};
 
 // 1 to 14.
 fn form_number(why: FormRefusal) -> u32
@@ -49,7 +52,7 @@ fn rule_number(why: RuleRefusal) -> u32
     }
 }
 
-// 41 to 43.
+// 41 to 43, and 50.
 fn run_number(why: RunRefusal) -> u32
     ensures { λ r. ⌜ r ≡ runNumber why ⌝ }
 {
@@ -57,6 +60,7 @@ fn run_number(why: RunRefusal) -> u32
         RunRefusal::Room => 41,
         RunRefusal::Owed => 42,
         RunRefusal::Late => 43,
+        RunRefusal::Rows => 50,
     }
 }
 
@@ -80,6 +84,19 @@ pub fn refusal_numbers(x: Refusal) -> Numbered
             a: at.a,
             b: at.b,
         },
+    }
+}
+
+// The report of lateness fills its rows "for success and for 43".
+pub fn fills(answer: RunVerdict) -> bool
+    ensures { λ r. ⌜ r ≡ fills (runNumbers answer) ⌝ }
+{
+    match answer {
+        RunVerdict::Accepted(_) => true,
+        RunVerdict::Refused(x) => {
+            let said = refusal_numbers(x);
+            said.number == 43
+        }
     }
 }
 
@@ -110,4 +127,16 @@ pub fn sum(x: u32, y: u32) -> u32
 {
     let room = 0xffff_ffff - x;
     if y <= room { x + y } else { 0xffff_ffff }
+}
+
+// A signed number without its sign. 64 bits hold the opposite of every one.
+pub fn size(x: i32) -> u32
+    ensures { λ r. ⌜ r ≡ natAbs x ⌝ }
+{
+    let wide = x as i64;
+    if wide < 0 {
+        (0 - wide) as u32
+    } else {
+        wide as u32
+    }
 }

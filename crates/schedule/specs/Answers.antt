@@ -1,4 +1,4 @@
--- What each call answers, and what it leaves in the lent buffer.
+-- What the checks and the run answer, and what the run leaves in the lent buffer.
 -- Assumes nothing.
 use Prim.Native.Nat.{ℕ, _-_, _*_}
 use mathlib.Core.Bool.{cond}

@@ -3,7 +3,8 @@
 use Prim.Native.Nat.{ℕ}
 use mathlib.Core.List.{List, map}
 use mathlib.Core.Path.{_≡_}
-use lib.ListN.{replicate}
+use lib.IntN.{ℤ}
+use lib.ListN.{length, replicate}
 use lib.Seq.{sets}
 use Rattle.schedule.specs.Bounded
 use Rattle.schedule.specs.Fields
@@ -15,6 +16,7 @@ use Rattle.schedule.specs.Plan
 use Rattle.schedule.specs.Machine
 use Rattle.schedule.specs.Checks
 use Rattle.schedule.specs.Answers
+use Rattle.schedule.specs.Report
 use Rattle.schedule.specs.Streams
 use Rattle.schedule.specs.Lines
 use Rattle.schedule.specs.Bounded.{table}
@@ -24,6 +26,7 @@ use Rattle.schedule.specs.Plan.{plan}
 use Rattle.schedule.specs.Checks.{efe}
 use Rattle.schedule.specs.Answers.{Answer, accepted, refused, Figures, Written}
 use Rattle.schedule.specs.Answers.{plainVerdict, strictVerdict, machinePlan, lengthNeeded, runAnswer, runBuffer}
+use Rattle.schedule.specs.Report.{reportAnswer, reportRows}
 use Rattle.schedule.specs.Lines.{runRoom}
 
 -- bytes with others in place from a position on
@@ -38,7 +41,8 @@ abbrev pub refuses : ℕ → ℕ → ℕ → Answer Figures
 refuses number a b = refused (record { number = number; A = a; B = b })
 
 -- What is asked: both checks of a model's and a plan's bytes, or the plan's efes; the run of a model's and a choice's
--- bytes, or the machine's words, starts or ends, or the bytes that it writes into a buffer of the plan's length.
+-- bytes, or the machine's words, starts or ends, or the bytes that it writes into a buffer of the plan's length; the report
+-- of a model's and a choice's bytes with a lent list.
 pub data Question : Type 0 where
   check : List ℕ → List ℕ → Question
   efes : List ℕ → List ℕ → Question
@@ -47,12 +51,14 @@ pub data Question : Type 0 where
   starts : List ℕ → List ℕ → Question
   ends : List ℕ → List ℕ → Question
   writes : List ℕ → List ℕ → Question
+  report : List ℕ → List ℕ → List ℤ → Question
 
--- What is said: the plain and the strict verdict, the run's, or numbers in order.
+-- What is said: the plain and the strict verdict, the run's, numbers in order, or the report's answer and the list after it.
 pub data Saying : Type 0 where
   verdicts : Answer Figures → Answer Figures → Saying
   verdict : Answer Figures → Saying
   numbers : List ℕ → Saying
+  reports : Answer Written → List ℤ → Saying
 
 -- the run's verdict without the plan's length, as gridrun prints it
 unfoldable pub printed : Answer Written → Answer Figures
@@ -68,6 +74,7 @@ said (words s q) = numbers (table (model s .horizon) (machinePlan (model s) (cho
 said (starts s q) = numbers (table (model s .activities) (machinePlan (model s) (choice q) .start))
 said (ends s q) = numbers (table (model s .activities) (machinePlan (model s) (choice q) .end))
 said (writes s q) = numbers (runBuffer s q (replicate (lengthNeeded (model s)) 255))
+said (report s q list) = reports (reportAnswer s q (length list)) (reportRows s q list)
 
 pub record Case : Type 0 where
   pub asked : Question
@@ -96,8 +103,9 @@ unfolding Bounded.all Bounded.count Bounded.total Bounded.greatest Bounded.least
     Answers.answer Answers.figures Answers.plainChecks Answers.strictChecks Answers.plainVerdict Answers.strictVerdict
     Answers.machinePlan Answers.owedRule Answers.runRules Answers.lengthNeeded Answers.runChecks Answers.concluded
     Answers.outcome Answers.runOutcome Answers.answerOf Answers.runAnswer Answers.bufferAfter Answers.runBuffer
+    Report.reportRow Report.rowsRule Report.reportRules Report.reportAnswer Report.rowsAfter Report.reportRows
     Streams.taken Streams.splits Streams.firstRecord Streams.secondRecord Streams.viewRefusal Streams.viewWord
     Lines.digits Lines.decimal Lines.hexDigit Lines.hex Lines.three Lines.shown Lines.checkLines Lines.tickLine
-    Lines.runLines Lines.gridcheck Lines.gridrun
+    Lines.runLines Lines.signed Lines.rowText Lines.lateLine Lines.lateLines Lines.gridcheck Lines.gridrun Lines.gridlate
     printed said
 every = tt

@@ -10,10 +10,12 @@ pub mod Machine
 pub mod Checks
 pub mod Keeps
 pub mod Answers
+pub mod Report
 pub mod Streams
 pub mod Lines
 pub mod Numbers
 pub mod Cases
 pub mod Starred
 pub mod Mistakes
+pub mod Lateness
 pub mod Listing

@@ -1,15 +1,19 @@
--- The lines that gridcheck and gridrun print, as ASCII bytes, and the whole output of each as a function of its input.
+-- The lines that gridcheck, gridrun and gridlate print, as ASCII bytes, and the whole output of each as a function of its
+-- input.
 -- Assumes nothing.
 use Prim.Native.Nat.{ℕ, zero, suc, _+_, _/_, _%_}
-use mathlib.Core.Bool.{cond}
+use mathlib.Core.Bool.{true, false, cond}
 use mathlib.Core.List.{List, [], _∷_, _++_}
 use lib.Dec.{ltb}
+use lib.IntN.{ℤ, pos, negsuc}
+use lib.ListN.{getD, replicate}
 use Rattle.schedule.specs.Bounded.{chain}
 use Rattle.schedule.specs.Model.{model}
 use Rattle.schedule.specs.Choice.{choice}
 use Rattle.schedule.specs.Plan.{Plan}
 use Rattle.schedule.specs.Answers.{Answer, accepted, refused, Figures, Written}
 use Rattle.schedule.specs.Answers.{plainVerdict, strictVerdict, machinePlan, runAnswer}
+use Rattle.schedule.specs.Report.{isDash, rowsNeeded, reportAnswer, fills, reportRows}
 use Rattle.schedule.specs.Streams.{taken, firstRecord, secondRecord}
 
 -- a number's decimal digits, as many as there are up to k, the last the least significant
@@ -52,11 +56,36 @@ checkLines plain strict =
 unfoldable pub tickLine : ℕ → ℕ → List ℕ
 tickLine t word = decimal t ++ (32 ∷ hex 8 word) ++ (10 ∷ [])
 
--- "prints on success a line for each tick .. then `run accepted` with the three figures; else only `run refused` .."
+-- "`run accepted` with the three figures; else only `run refused` with number, A, B": the last line of a run
+abbrev pub lastLine : Answer Written → List ℕ
+lastLine (accepted w) = 114 ∷ 117 ∷ 110 ∷ shown (accepted (w .figures))
+lastLine (refused x) = 114 ∷ 117 ∷ 110 ∷ shown (refused x)
+
+-- "prints on success a line for each tick .. then" the last line; "else only" that
 unfoldable pub runLines : Answer Written → Plan → List ℕ
-runLines (accepted w) p =
-    chain (p .horizon) (λ t. tickLine t (p .word t)) ++ (114 ∷ 117 ∷ 110 ∷ shown (accepted (w .figures)))
-runLines (refused x) p = 114 ∷ 117 ∷ 110 ∷ shown (refused x)
+runLines (accepted w) p = chain (p .horizon) (λ t. tickLine t (p .word t)) ++ lastLine (accepted w)
+runLines (refused x) p = lastLine (refused x)
+
+-- a signed number in decimal, with a minus sign where it is negative
+unfoldable pub signed : ℤ → List ℕ
+signed (pos n) = decimal n
+signed (negsuc n) = 45 ∷ decimal (suc n)
+
+-- a row of the report: "printed as a dash" where there is no period
+unfoldable pub rowText : ℤ → List ℕ
+rowText z = elim (isDash z) [ true ↦ 45 ∷ [] | false ↦ signed z ]
+
+-- "prints activity and figure by line"
+unfoldable pub lateLine : ℕ → ℤ → List ℕ
+lateLine a z = decimal a ++ (32 ∷ rowText z) ++ (10 ∷ [])
+
+-- "A program like `gridrun` prints activity and figure by line, for 43 too, then the last line": the rows of n activities
+-- where the report has filled them, else the last line alone
+unfoldable pub lateLines : Answer Written → ℕ → List ℤ → List ℕ
+lateLines answer n rows = elim (fills answer) [
+  | true ↦ chain n (λ a. lateLine a (getD rows a (pos 0))) ++ lastLine answer
+  | false ↦ lastLine answer
+]
 
 -- the longest plan's length: gridrun's buffer
 abbrev pub runRoom : ℕ
@@ -75,3 +104,10 @@ gridrun input =
     let s : List ℕ = firstRecord (taken input) in
     let q : List ℕ = secondRecord (taken input) in
     runLines (runAnswer s q runRoom) (machinePlan (model s) (choice q))
+
+-- `gridlate` (model, choice): the report on a list of as many rows as are needed
+unfoldable pub gridlate : List ℕ → List ℕ
+gridlate input =
+    let s : List ℕ = firstRecord (taken input) in
+    let q : List ℕ = secondRecord (taken input) in
+    lateLines (reportAnswer s q rowsNeeded) (model s .activities) (reportRows s q (replicate rowsNeeded (pos 0)))

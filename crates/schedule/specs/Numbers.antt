@@ -50,6 +50,7 @@ abbrev pub runNumber : RunRefusal → ℕ
 runNumber RunRefusal.Room = 41
 runNumber RunRefusal.Owed = 42
 runNumber RunRefusal.Late = 43
+runNumber RunRefusal.Rows = 50
 
 -- "A refusal answers its number, A and B"
 abbrev pub refusalNumbers : Refusal → Rule.Refusal
@@ -71,7 +72,7 @@ abbrev pub verdictNumbers : Verdict → Answer Answers.Figures
 verdictNumbers (Verdict.Accepted f) = accepted (figureNumbers f)
 verdictNumbers (Verdict.Refused x) = refused (refusalNumbers x)
 
--- what the run answers
+-- what the run answers, and the report of lateness
 abbrev pub runNumbers : RunVerdict → Answer Answers.Written
 runNumbers (RunVerdict.Accepted w) = accepted (writtenNumbers w)
 runNumbers (RunVerdict.Refused x) = refused (refusalNumbers x)

@@ -71,11 +71,11 @@ cores c = patch 5 (c ∷ []) modelS
 abbrev pub horizon : ℕ → List ℕ
 horizon H = patch 8 (0 ∷ H ∷ []) modelS
 
-abbrev wider-period : List ℕ
+abbrev pub wider-period : List ℕ
 wider-period = patch 20 (0 ∷ 5 ∷ 0 ∷ 8 ∷ []) modelS
 
 -- the chosen period of thread 1
-abbrev chosen-period : ℕ → List ℕ
+abbrev pub chosen-period : ℕ → List ℕ
 chosen-period p = patch 13 (0 ∷ p ∷ []) choiceS
 
 abbrev pub cases : List Case

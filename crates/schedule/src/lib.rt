@@ -64,7 +64,7 @@ pub enum RuleRefusal {
     Tie,
 }
 
-// Refusals 41 to 43, "From the state of the buffer or run".
+// Refusals 41 to 43, "From the state of the buffer or run", and 50, of a lent list.
 pub enum RunRefusal {
     // 41 "buffer shorter than the plan; A is the length needed"
     Room,
@@ -72,6 +72,8 @@ pub enum RunRefusal {
     Owed,
     // 43 "all ended, an end breaks rule 23; A the lowest"
     Late,
+    // 50 "for a list under 32 rows"
+    Rows,
 }
 
 // "A refusal answers its number, A and B"
@@ -107,7 +109,7 @@ pub struct Written {
     pub figures: Figures,
 }
 
-// What the run answers.
+// What the run answers, and the report of lateness.
 pub enum RunVerdict {
     Accepted(Written),
     Refused(Refusal),

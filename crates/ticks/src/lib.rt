@@ -1,11 +1,12 @@
-// The paper's comparisons of ticks, made once for the checks and for the run, and a word that is kept from one change to the
-// next.
+// The paper's comparisons of ticks, made once for the checks, the run and the report, and a word that is kept from one change to
+// the next.
 use numbers::sum;
 ghost use mathlib.Core.Path.{_≡_};
 ghost use mathlib.Core.Bool.{_&&_, cond};
 ghost use Prim.Native.Nat.{_+_, min};
 ghost use lib.Dec.{leb, ltb};
 ghost use Rattle.schedule.specs.Timing.{deadline, onTime};
+ghost use Rattle.schedule.specs.Report.{lateness};
 
 // "end + that predecessor's delay ≤ t", for every end and delay: no sum is made.
 pub fn passed(end: u32, delay: u32, t: u32) -> bool
@@ -14,11 +15,11 @@ pub fn passed(end: u32, delay: u32, t: u32) -> bool
     if end <= t { delay <= t - end } else { false }
 }
 
-// The deadline of a thread that has a period: "that period", whatever the release.
-fn deadline(_release: u32, period: u32) -> u32
+// The deadline of a thread that has a period: "that period", whatever the release. Wide enough for any sum of the two.
+fn deadline(_release: u32, period: u32) -> u64
     ensures { λ r. ⌜ r ≡ deadline «_release» period ⌝ }
 {
-    period
+    period as u64
 }
 
 // "a thread with a period has end ≤ that period": period 0 is none.
@@ -28,8 +29,18 @@ pub fn on_time(release: u32, period: u32, end: u32) -> bool
     if period == 0 {
         true
     } else {
-        end <= deadline(release, period)
+        end as u64 <= deadline(release, period)
     }
+}
+
+// "the deadline less its end, as a signed whole number, negative when late and 0 on the dot", and −2147483648 without a period.
+pub fn lateness(release: u32, period: u32, end: u32) -> i64
+    ensures { λ r. ⌜ r ≡ lateness release period end ⌝ }
+{
+    if period == 0 {
+        return -2147483648;
+    }
+    deadline(release, period) as i64 - end as i64
 }
 
 // When a predecessor that is done at a tick lets go: with its delay if it is a temporal one, at once if by data, and of no
