@@ -1,9 +1,11 @@
-/* The three calls of the grid checker.
+/* The four calls of the grid checker.
  *
- * Every record and the buffer is passed as a pointer and the number of bytes. No pointer may be null, even where the
- * number is 0, and none has to be aligned. The two records may overlap; the bytes of `out` overlap neither of them. Only
- * grid_run writes, and only into `out`; with 16,553 bytes `out` is never too short. The calls keep nothing, so that several
- * threads may make them at once, each with its own `out`.
+ * Every record and the buffer is passed as a pointer and the number of bytes, and the list `rows` as a pointer and the
+ * number of its rows, each an int32_t. No pointer may be null, even where the number is 0. `rows` is aligned as int32_t is;
+ * no other pointer has to be aligned. The two records may overlap; neither `out` nor `rows` overlaps one of them. Only
+ * grid_run and grid_lateness write, the one only into `out` and the other only into `rows`; with 16,553 bytes `out` is
+ * never too short, and with 32 rows `rows` never is. The calls keep nothing, so that several threads may make them at once, each
+ * with its own `out` or `rows`.
  */
 #ifndef GRID_H
 #define GRID_H
@@ -16,7 +18,7 @@ extern "C" {
 #endif
 
 /* number 0: accepted. first is the usage, second the cores times the horizon, third the makespan, and length the
- * number of bytes of the plan that was written (0 for a check).
+ * number of bytes of the run's plan (0 for a check).
  * Otherwise number is the number of the refusal, first its A and second its B; third and length are 0. */
 typedef struct GridAnswer {
     uint32_t number;
@@ -39,6 +41,15 @@ GridAnswer grid_check_strict(const uint8_t *model, size_t model_length,
 GridAnswer grid_run(const uint8_t *model, size_t model_length,
                     const uint8_t *choice, size_t choice_length,
                     uint8_t *out, size_t out_length);
+
+/* The lateness of each activity in the run of a choice. The answer is that of grid_run with room enough, the plan's length
+ * included, but 50 for fewer than 32 rows, however few activities there are; it is tried after 1 to 13 and before 42 and
+ * 43. A success and 43 set row a to the deadline less the end of activity a, negative when late and 0 on the dot, or to
+ * INT32_MIN where its thread has no period. Refusals 1 to 13, 42 and 50 change no row, and rows beyond the last activity
+ * never change. */
+GridAnswer grid_lateness(const uint8_t *model, size_t model_length,
+                         const uint8_t *choice, size_t choice_length,
+                         int32_t *rows, size_t rows_length);
 
 #ifdef __cplusplus
 }

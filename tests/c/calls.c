@@ -1,9 +1,9 @@
-/* The three calls of include/grid.h on model S, with its records read from samples/.
+/* The four calls of include/grid.h on model S, with its records read from samples/.
  *
  * usage: calls FOLDER
  *
- * FOLDER has S.model, S.plan, S-early.plan and S.choice. Each answer and every byte of the lent buffer are compared with
- * the paper's; the first difference ends the program with a message and status 1.
+ * FOLDER has S.model, S.plan, S-early.plan and S.choice. Each answer, every byte of the lent buffer and every row of the
+ * lent list are compared with the paper's; the first difference ends the program with a message and status 1.
  */
 #include "grid.h"
 
@@ -14,8 +14,11 @@
 enum {
     PLAN = 61,    /* the bytes of S's plan */
     MOST = 256,   /* room for any of the samples */
-    AROUND = 17,  /* bytes in front of and behind the lent buffer, which no call may change; so it is not aligned */
-    FILLED = 0xa5 /* what the buffer and the bytes around it hold before a call */
+    ROWS = 32,    /* the rows of a list that suffices */
+    LIST = 64,    /* room for any of the lists */
+    AROUND = 17,  /* bytes in front of and behind the lent buffer, which no call may change, so that it is not aligned; and
+                     rows in front of and behind the lent list */
+    FILLED = 0xa5 /* what each byte of the buffer, of the list and around them is before a call */
 };
 
 typedef struct Record {
@@ -104,9 +107,32 @@ static void run(const char *what, const Record *model, const Record *choice, siz
     }
 }
 
+/* The report with `length` rows lent. Afterwards the first `written` are those of `expected`, and no other row changed. */
+static void lateness(const char *what, const Record *model, const Record *choice, size_t length, GridAnswer answer,
+                     const int32_t *expected, size_t written)
+{
+    int32_t space[AROUND + LIST + AROUND];
+    int32_t filled;
+    size_t at;
+
+    memset(space, FILLED, sizeof space);
+    memset(&filled, FILLED, sizeof filled);
+    expect(what, grid_lateness(model->bytes, model->length, choice->bytes, choice->length, space + AROUND, length),
+           answer);
+    for (at = 0; at < sizeof space / sizeof space[0]; at++) {
+        int within = at >= AROUND && at < AROUND + written;
+        if (space[at] != (within ? expected[at - AROUND] : filled)) {
+            fprintf(stderr, "calls: %s: row %ld of the list is %ld\n", what, (long)at - AROUND, (long)space[at]);
+            exit(1);
+        }
+    }
+}
+
 int main(int count, char **words)
 {
     static const uint8_t zeros[PLAN];
+    static const int32_t good_rows[] = {INT32_MIN, 4, 2};
+    static const int32_t late_rows[] = {INT32_MIN, 1, -1};
     static const Record empty;
     Record model, plan, early, choice, other;
 
@@ -141,13 +167,23 @@ int main(int count, char **words)
     run("a plan for the choice", &model, &plan, PLAN, refused(11, 0, 0), zeros, 0);
     run("no model for the run", &empty, &choice, PLAN, refused(1, 0, 0), zeros, 0);
 
+    lateness("a list of 32 rows", &model, &choice, ROWS, accepted(5, 8, 6, PLAN), good_rows, 3);
+    lateness("a longer list", &model, &choice, LIST, accepted(5, 8, 6, PLAN), good_rows, 3);
+    lateness("a list of 31 rows", &model, &choice, ROWS - 1, refused(50, 0, 0), good_rows, 0);
+    lateness("a list of no rows", &model, &choice, 0, refused(50, 0, 0), good_rows, 0);
+    lateness("a plan for the choice of the report", &model, &plan, ROWS, refused(11, 0, 0), good_rows, 0);
+    lateness("no model for the report", &empty, &choice, ROWS, refused(1, 0, 0), good_rows, 0);
+    lateness("no model and 31 rows", &empty, &choice, ROWS - 1, refused(1, 0, 0), good_rows, 0);
+
     other = model;
     other.bytes[9] = 5;
     run("H 5", &other, &choice, PLAN, refused(42, 2, 0), zeros, PLAN - 3 * 4);
+    lateness("H 5 for the report", &other, &choice, ROWS, refused(42, 2, 0), late_rows, 0);
     other = model;
     other.bytes[21] = 5;
     choice.bytes[14] = 5;
     run("a chosen period of 5", &other, &choice, PLAN, refused(43, 2, 0), zeros, PLAN);
+    lateness("a chosen period of 5 for the report", &other, &choice, ROWS, refused(43, 2, 0), late_rows, 3);
 
     printf("calls: %d answers as expected\n", done);
     return 0;

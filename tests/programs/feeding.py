@@ -1,4 +1,4 @@
-"""What the scripts that feed a built program share: the ways to start it, and the cases that both programs have.
+"""What the scripts that feed a built program share: the ways to start it, and the cases that several programs have.
 
 The first difference ends the script with a message and a status that is not 0.
 """
@@ -15,6 +15,7 @@ os.chdir(pathlib.Path(__file__).resolve().parent.parent.parent)
 LIMIT = 17189  # "at most 17,189 bytes of standard input"
 WAIT = 20  # seconds after which a program counts as hanging
 MODEL = pathlib.Path("samples/S.model").read_bytes()
+CHOICE = pathlib.Path("samples/S.choice").read_bytes()
 
 
 def be(value, size):
@@ -25,10 +26,32 @@ def in_pieces(data, size):
     return [data[at:at + size] for at in range(0, len(data), size)]
 
 
-def largest_model(ticks, priorities=bytes(8)):
+def patched(record, at, new):
+    """A record with other bytes in place from a position on."""
+    return record[:at] + bytes(new) + record[at + len(new):]
+
+
+def with_period(period):
+    """S's pair, thread 1's period range 5..8 and this one chosen."""
+    return patched(MODEL, 20, be(5, 2)) + patched(CHOICE, 13, be(period, 2))
+
+
+def run_refused(number, a=0, b=0):
+    """The last line of gridrun and of gridlate where the run is refused."""
+    return b"run refused %d %d %d\n" % (number, a, b)
+
+
+def largest_model(ticks, priorities=bytes(8), periods=bytes(8)):
     """The longest model, 570 bytes: 8 cores, 8 threads, 32 activities of so many ticks, H 4096. No predecessors."""
-    model = be(570, 4) + bytes([1, 8, 8, 32]) + be(4096, 2) + b"".join(bytes(8) + be(p, 2) for p in priorities)
+    threads = (be(period, 2) + be(period, 2) + bytes(4) + be(p, 2) for p, period in zip(priorities, periods))
+    model = be(570, 4) + bytes([1, 8, 8, 32]) + be(4096, 2) + b"".join(threads)
     return model + b"".join(bytes([a % 8]) + be(ticks, 2) + be(ticks, 2) + bytes(10) for a in range(32))
+
+
+def largest_pair(ticks, priorities=bytes(8), periods=bytes(8)):
+    """The longest model and its choice, 570 and 103 bytes. All releases are 0."""
+    choice = be(103, 4) + bytes([1, 8, 32]) + b"".join(bytes(2) + be(period, 2) for period in periods)
+    return largest_model(ticks, priorities, periods) + choice + 32 * be(ticks, 2)
 
 
 def largest_words(ticks):
@@ -118,6 +141,14 @@ class Fed:
         self.expect(what, self.left(what, program, program.stdout.read), (0, printed, None))
         for end in (program.stdin, program.stdout):
             end.close()
+
+    def refused_neighbours(self):
+        """Neighbours of S for which gridrun and gridlate print the last line alone."""
+        self.run("S with H 5", patched(MODEL, 8, be(5, 2)) + CHOICE, run_refused(42, 2))
+        self.run("release 3 for thread 0", MODEL + patched(CHOICE, 7, be(3, 2)), run_refused(12))
+        self.run("duration 3 for activity 0", MODEL + patched(CHOICE, 15, be(3, 2)), run_refused(13))
+        self.run("a model of version 2", patched(MODEL, 4, [2]) + CHOICE, run_refused(2))
+        self.run("temporal mask 2 in activity 1's row", patched(MODEL, 52, be(2, 4)) + CHOICE, run_refused(7, 1))
 
     def parts(self, pair, refused):
         """Where the two records part; refused gives what is printed of a number with place 0 0."""

@@ -6,11 +6,12 @@ use schedule::Verdict;
 ghost use mathlib.Core.Path.{_≡_};
 ghost use lib.ListN.{length};
 ghost use Rattle.schedule.specs.Answers.{plainVerdict, strictVerdict, runAnswer, runBuffer};
+ghost use Rattle.schedule.specs.Report.{reportAnswer, reportRows};
 ghost use Rattle.schedule.specs.Numbers.{refusalNumbers, verdictNumbers, runNumbers};
 ghost use Rattle.capi.specs.Exported.{refusalExported, verdictExported, runExported};
 
-// Number 0 for accepted, then usage, c times H, makespan, and the plan's length (0 for a check); otherwise the refusal's
-// number, A, B, 0, 0.
+// Number 0 for accepted, then usage, c times H, makespan, and the length of the run's plan (0 for a check); otherwise the
+// refusal's number, A, B, 0, 0.
 #[repr(C)]
 pub struct GridAnswer {
     pub number: u32,
@@ -89,4 +90,13 @@ pub extern "C" fn grid_run(model: &[u8], choice: &[u8], out: &mut [u8]) -> GridA
         × (now (out .exit) ≡ runBuffer (now (model .entry)) (now (choice .entry)) (now (out .entry))) ⌝ }
 {
     run_answer(run::run(model, choice, out))
+}
+
+// The report of lateness, with a row for each activity written into the lent list.
+#[no_mangle]
+pub extern "C" fn grid_lateness(model: &[u8], choice: &[u8], rows: &mut [i32]) -> GridAnswer
+    ensures { λ r. ⌜ (r ≡ runExported (reportAnswer (now (model .entry)) (now (choice .entry)) (length (now (rows .entry)))))
+        × (now (rows .exit) ≡ reportRows (now (model .entry)) (now (choice .entry)) (now (rows .entry))) ⌝ }
+{
+    run_answer(report::lateness(model, choice, rows))
 }

@@ -1,3 +1,4 @@
 pub mod Printed
 pub mod Said
 pub mod Appended
+pub mod Rows

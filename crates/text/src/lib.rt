@@ -1,5 +1,5 @@
-// The lines that gridcheck and gridrun print, made as bytes in a lent buffer: whole where they fit, else nothing. Their
-// length is found first; then every part is written behind the one before it.
+// The lines that gridcheck, gridrun and gridlate print, made as bytes in a lent buffer: whole where they fit, else nothing.
+// Their length is found first; then every part is written behind the one before it.
 use numbers::refusal_numbers;
 use schedule::Refusal;
 use schedule::RunVerdict;
@@ -10,10 +10,12 @@ ghost use lib.ListN.{length};
 ghost use Rattle.schedule.specs.Bounded.{chain, total};
 ghost use Rattle.schedule.specs.Plan;
 ghost use Rattle.schedule.specs.Numbers.{refusalNumbers, verdictNumbers, runNumbers};
-ghost use Rattle.schedule.specs.Lines.{decimal, hexDigit, three, checkLines, tickLine, runLines};
+ghost use Rattle.schedule.specs.Lines.{decimal, hexDigit, three, checkLines, tickLine, runLines, lateLines};
 ghost use Rattle.text.specs.Printed.{leaves, printed};
 ghost use Rattle.text.specs.Said.{refusalSaid, verdictSaid, runSaid, verdictWord, line};
 ghost use Rattle.text.specs.Appended.{Appended, inBase, number, ticksOf, wordOf, tickText, tickLength};
+
+mod late;
 
 // The word of a tick.
 fn word_at(plan: &[u8], t: u32) -> u32
@@ -274,5 +276,21 @@ pub fn run_lines(out: &mut [u8], answer: RunVerdict, plan: &[u8]) -> usize
         return 0;
     }
     let at = put_ticks(out, plan, h);
+    put_line(out, at, b"run", said)
+}
+
+// "A program like `gridrun` prints activity and figure by line, for 43 too, then the last line". As many rows as there are
+// activities; a row that is not there counts as 0. Whole or nothing, as above.
+pub fn late_lines(out: &mut [u8], answer: RunVerdict, activities: u8, rows: &[i32]) -> usize
+    ensures { λ r. ⌜ leaves r (now (out .exit))
+        ≡ printed (lateLines (runNumbers answer) activities (now (rows .entry))) (now (out .entry)) ⌝ }
+{
+    let count = late::lines(answer, activities);
+    let said = run_said(answer);
+    let n = late::lines_length(rows, count) + line_length(b"run", said);
+    if out.len() < n {
+        return 0;
+    }
+    let at = late::put_lines(out, rows, count);
     put_line(out, at, b"run", said)
 }

@@ -1,13 +1,16 @@
-// Both checks, the run, the held view and the splitter on the stored cases. CASES.md says what each case shows.
+// Both checks, the run, the held view, the splitter and the report on the stored cases. CASES.md says what each case shows.
 //
 // data/cases holds how many cases of the checks there are, then for each its model and its plan; then how many cases of
 // the run, and for each its model, its choice and the buffer that is lent; then how many cases of the view, and for each
-// its model, its plan and the tick; then how many cases of the splitter, and for each its input, each record and input
-// behind its length. These numbers take 4 bytes each, the tick 8, big-endian. For each case a line with its number, then
-// the lines that gridcheck or gridrun prints of it; of a run also the buffer afterwards, byte by byte in decimal; of a
-// view what its making answers, and its word, in decimal, or past; of the splitter the bytes of the two records.
+// its model, its plan and the tick; then how many cases of the splitter, and for each its input; then how many cases of the
+// report, and for each its model, its choice and how many rows are lent. Each record and input stands behind its length.
+// These numbers take 4 bytes each, the tick 8, big-endian. For each case a line with its number, then the lines that
+// gridcheck, gridrun or gridlate prints of it; of a run also the buffer afterwards, byte by byte in decimal; of a view what
+// its making answers, and its word, in decimal, or past; of the splitter the bytes of the two records; of a report also the
+// list afterwards.
 use libc::STDOUT_FILENO;
 use numbers::refusal_numbers;
+use numbers::smaller;
 use records::Pass;
 use schedule::Refusal;
 use schedule::WordAt;
@@ -19,6 +22,7 @@ enum Kind {
     Run,
     View,
     Split,
+    Report,
 }
 
 // The next number of the file, 0 past its end.
@@ -163,6 +167,58 @@ fn next_split(fd: i32) {
     print_split(&input[..n]);
 }
 
+// The rows that are lent, all different: 100, 101, 102, ..
+fn rows_before() -> [i32; 128] {
+    let mut rows = [0i32; 128];
+    let mut a: usize = 0;
+    while a < 128 {
+        rows[a] = (100 + a) as i32;
+        a += 1;
+    }
+    rows
+}
+
+// Prints a signed number behind a space.
+fn print_signed(x: i32) {
+    io::write_all(STDOUT_FILENO, b" ");
+    if x < 0 {
+        io::write_all(STDOUT_FILENO, b"-");
+    }
+    io::print_decimal(STDOUT_FILENO, numbers::size(x) as u64);
+}
+
+// Prints the rows of a list behind their name.
+fn print_rows(rows: &[i32]) {
+    io::write_all(STDOUT_FILENO, b"rows");
+    let mut a = 0;
+    while a < rows.len() {
+        print_signed(rows[a]);
+        a += 1;
+    }
+    io::write_all(STDOUT_FILENO, b"\n");
+}
+
+// Prints the lines of a model and a choice, and the list that the report leaves. The lines take at most 366 bytes.
+fn print_report(model: &[u8], choice: &[u8], rows: &mut [i32]) {
+    let answer = report::lateness(model, choice, rows);
+    let sizes = records::model::counts(model);
+    let mut lines = [0u8; 512];
+    let n = text::late_lines(&mut lines, answer, sizes.activities, rows);
+    io::write_all(STDOUT_FILENO, &lines[..n]);
+    print_rows(rows);
+}
+
+// Reads the next case of the report and prints its lines and its list; at most 128 rows are lent.
+fn next_report(fd: i32) {
+    let mut model = [0u8; 1024];
+    let mut choice = [0u8; 256];
+    let m = next_record(fd, &mut model);
+    let c = next_record(fd, &mut choice);
+    let lent = smaller(next_number(fd), 128) as usize;
+    let mut rows = rows_before();
+    print_report(&model[..m], &choice[..c], &mut rows[..lent]);
+}
+
 // Reads the next case of a kind and prints what its call answers.
 fn next(fd: i32, kind: Kind) {
     match kind {
@@ -170,6 +226,7 @@ fn next(fd: i32, kind: Kind) {
         Kind::Run => next_run(fd),
         Kind::View => next_view(fd),
         Kind::Split => next_split(fd),
+        Kind::Report => next_report(fd),
     }
 }
 
@@ -194,5 +251,6 @@ fn main() {
     all(fd, Kind::Run);
     all(fd, Kind::View);
     all(fd, Kind::Split);
+    all(fd, Kind::Report);
     libc::close(fd);
 }

@@ -1,5 +1,6 @@
 //! Pairs of records for the comparison: sound ones, damaged ones, and plans that leave the rules in chosen places. A model
-//! stands with a plan for the checks or with a choice for the run; a few pairs have the wrong one of the two.
+//! stands with a plan for the checks or with a choice for the run and the report of lateness; a few pairs have the wrong
+//! one of the two.
 
 use crate::random::Random;
 use crate::records::{set_length, ActivityRow, Choice, Model, Plan, ThreadRow};
@@ -13,6 +14,8 @@ pub struct Case {
     pub checked: bool,
     /// The buffer that is lent to the run, as it is before the call; none where the run is not asked.
     pub buffer: Option<Vec<u8>>,
+    /// The list that is lent to the report, as it is before the call; the report is asked where the run is.
+    pub rows: Option<Vec<i32>>,
 }
 
 type Maker = fn(&mut Random) -> Case;
@@ -54,7 +57,9 @@ pub fn make(seed: u64, number: u64) -> Case {
     let mut left = random.below(total);
     for &(share, name, maker) in KINDS {
         if left < share {
-            return Case { kind: name, ..maker(random) };
+            let case = maker(random);
+            let rows = case.buffer.as_ref().map(|_| rows(random));
+            return Case { kind: name, rows, ..case };
         }
         left -= share;
     }
@@ -253,7 +258,7 @@ fn no_habits(_: &mut Random, _: &Model) -> Habits {
     Habits::default()
 }
 
-// Buffers
+// Buffers and lists
 
 /// A buffer for a plan of this length: too short, exact or longer, and filled before.
 fn buffer(random: &mut Random, length: usize) -> Vec<u8> {
@@ -269,16 +274,35 @@ fn buffer(random: &mut Random, length: usize) -> Vec<u8> {
     }
 }
 
+/// A list for the report: too short, exact or longer, and filled before; no row is 0.
+fn rows(random: &mut Random) -> Vec<i32> {
+    let length = match random.below(16) {
+        0 => random.pick(&[0, 30, 31, 31]),
+        1 => random.below(32),
+        2..=9 => 32,
+        10..=12 => 33,
+        _ => random.within(34, 70),
+    };
+    let row = |_| match random.below(8) {
+        0 => i32::MIN,
+        1 => random.pick(&[i32::MIN + 1, i32::MAX, -1, 1]),
+        2 => random.within(1, 4096) as i32,
+        3 => -(random.within(1, 4096) as i32),
+        _ => Some(random.draw() as i32).filter(|&row| row != 0).unwrap_or(1),
+    };
+    (0..length).map(row).collect()
+}
+
 fn run_case(random: &mut Random, model: &Model, choice: &Choice) -> Case {
     let buffer = Some(buffer(random, model.plan_length()));
-    Case { kind: "", model: model.bytes(), second: choice.bytes(), checked: false, buffer }
+    Case { kind: "", model: model.bytes(), second: choice.bytes(), checked: false, buffer, rows: None }
 }
 
 fn plan_case(page: &Page) -> Case {
-    Case { kind: "", model: page.model.bytes(), second: page.plan.bytes(), checked: true, buffer: None }
+    Case { kind: "", model: page.model.bytes(), second: page.plan.bytes(), checked: true, buffer: None, rows: None }
 }
 
-/// A plan where the run wants a choice, or a choice where the checks want a plan; all three calls are asked.
+/// A plan where the run wants a choice, or a choice where the checks want a plan; all four calls are asked.
 fn other_record(random: &mut Random) -> Case {
     let (page, mut case) = sound_case(random);
     if random.one_in(4) {
@@ -528,7 +552,7 @@ fn random_bytes(random: &mut Random) -> Case {
     }
     let length = random.below(60);
     let buffer = Some(random.bytes(length));
-    Case { kind: "", model, second, checked: true, buffer }
+    Case { kind: "", model, second, checked: true, buffer, rows: None }
 }
 
 /// A sound page as a run or as a plan.

@@ -1,7 +1,7 @@
 //! The exports of the proved code, as in `include/grid.h`, with safe wrappers.
 //!
-//! Pointer and length are declared as two parameters. A slice as one parameter would not do for `out`: no register is
-//! left for its length, and the pointer would then go to the stack with it.
+//! Pointer and length are declared as two parameters. A slice as one parameter would not do for `out` and `rows`: no
+//! register is left for its length, and the pointer would then go to the stack with it.
 
 use crate::Answer;
 
@@ -15,6 +15,14 @@ extern "C" {
         choice_length: usize,
         out: *mut u8,
         out_length: usize,
+    ) -> Answer;
+    fn grid_lateness(
+        model: *const u8,
+        model_length: usize,
+        choice: *const u8,
+        choice_length: usize,
+        rows: *mut i32,
+        rows_length: usize,
     ) -> Answer;
 }
 
@@ -31,4 +39,10 @@ pub fn check_strict(model: &[u8], plan: &[u8]) -> Answer {
 pub fn run(model: &[u8], choice: &[u8], out: &mut [u8]) -> Answer {
     // SAFETY: each pointer comes with the length of its slice, and `out` is borrowed alone, so it overlaps neither input.
     unsafe { grid_run(model.as_ptr(), model.len(), choice.as_ptr(), choice.len(), out.as_mut_ptr(), out.len()) }
+}
+
+pub fn lateness(model: &[u8], choice: &[u8], rows: &mut [i32]) -> Answer {
+    // SAFETY: each pointer comes with the length of its slice, that of `rows` in rows, and `rows` is borrowed alone, so it
+    // overlaps neither input.
+    unsafe { grid_lateness(model.as_ptr(), model.len(), choice.as_ptr(), choice.len(), rows.as_mut_ptr(), rows.len()) }
 }

@@ -1,4 +1,5 @@
-//! The paper's rules as a plain program: the three records, the plain check, the strict check and the run.
+//! The paper's rules as a plain program: the three records, the plain check, the strict check, the run and the report of
+//! lateness.
 //!
 //! The numbers in the comments are the paper's. Each number is tried over all its rows before the next one.
 
@@ -59,20 +60,37 @@ pub fn run(model: &[u8], choice: &[u8], out: &mut [u8]) -> Result<(Figures, u32)
         return refuse(41, length, 0);
     }
     let machine = Machine::run(&model, &choice);
-    if let Some(a) = machine.owed.iter().position(|&owed| owed > 0) {
-        out[..length].fill(0);
-        return refuse(42, a, 0);
+    let answer = machine.judge(&model, &choice);
+    match answer {
+        Ok(_) => write_plan(&model, &choice, &machine, &mut out[..length]),
+        Err(_) => out[..length].fill(0),
     }
+    answer
+}
+
+/// The least rows of a list for the report, whatever the model's m.
+const LEAST_ROWS: usize = 32;
+/// The row of an activity whose thread has no period.
+const NO_PERIOD: i32 = -2147483648;
+
+/// The report of lateness, which "answers as the run does": for success and for 43 the row of each activity is "the
+/// deadline less its end", and "for every other answer no row is written".
+pub fn lateness(model: &[u8], choice: &[u8], rows: &mut [i32]) -> Result<(Figures, u32), Refusal> {
+    let model = read_model(model)?;
+    let choice = read_choice(&model, choice)?;
+    if rows.len() < LEAST_ROWS {
+        return refuse(50, 0, 0);
+    }
+    let machine = Machine::run(&model, &choice);
+    // Before the first row, since 42 writes none.
+    machine.all_ended()?;
     for (a, activity) in model.activities.iter().enumerate() {
-        let period = choice.threads[activity.thread].period;
-        if period != 0 && machine.end[a] > period {
-            out[..length].fill(0);
-            return refuse(43, a, 0);
-        }
+        rows[a] = match choice.threads[activity.thread].deadline() {
+            Some(deadline) => deadline as i32 - machine.end[a] as i32,
+            None => NO_PERIOD,
+        };
     }
-    write_plan(&model, &choice, &machine, &mut out[..length]);
-    let usage = machine.words.iter().map(|word| word.count_ones()).sum();
-    Ok((figures(&model, usage, &machine.end, &choice.threads), length as u32))
+    machine.judge(&model, &choice)
 }
 
 // Records
@@ -111,6 +129,18 @@ impl Model {
 struct Chosen {
     release: u32,
     period: u32,
+}
+
+impl Chosen {
+    /// The tick that no end may pass, for 23, 43 and the report; none for a thread without a period.
+    fn deadline(&self) -> Option<u32> {
+        (self.period != 0).then_some(self.period)
+    }
+
+    /// Whether this end of an activity breaks rule 23.
+    fn late(&self, end: u32) -> bool {
+        self.deadline().is_some_and(|deadline| end > deadline)
+    }
 }
 
 struct Choice {
@@ -361,6 +391,32 @@ impl Machine {
             && bits(activity.temporal).all(|b| self.owed[b] == 0 && self.end[b] + model.activities[b].delay <= t)
             && bits(activity.data).all(|b| self.owed[b] == 0 && self.end[b] <= t)
     }
+
+    /// 42
+    fn all_ended(&self) -> Result<(), Refusal> {
+        match self.owed.iter().position(|&owed| owed > 0) {
+            Some(a) => refuse(42, a, 0),
+            None => Ok(()),
+        }
+    }
+
+    /// 43
+    fn deadline(&self, model: &Model, choice: &Choice) -> Result<(), Refusal> {
+        for (a, activity) in model.activities.iter().enumerate() {
+            if choice.threads[activity.thread].late(self.end[a]) {
+                return refuse(43, a, 0);
+            }
+        }
+        Ok(())
+    }
+
+    /// 42 and 43; on success the figures and the plan's length.
+    fn judge(&self, model: &Model, choice: &Choice) -> Result<(Figures, u32), Refusal> {
+        self.all_ended()?;
+        self.deadline(model, choice)?;
+        let usage = self.words.iter().map(|word| word.count_ones()).sum();
+        Ok((figures(model, usage, &self.end, &choice.threads), plan_length(model) as u32))
+    }
 }
 
 fn write_plan(model: &Model, choice: &Choice, machine: &Machine, out: &mut [u8]) {
@@ -488,8 +544,7 @@ impl<'a> Page<'a> {
     /// 23
     fn deadline(&self) -> Result<(), Refusal> {
         for (a, activity) in self.activities() {
-            let period = self.plan.threads[activity.thread].period;
-            if period != 0 && self.plan.end[a] > period {
+            if self.plan.threads[activity.thread].late(self.plan.end[a]) {
                 return refuse(23, a, 0);
             }
         }

@@ -1,4 +1,5 @@
-//! The paper's cases of model S and its neighbours, tried with the reference and with the exports.
+//! The paper's cases of model S and its neighbours, and those of the report of lateness, tried with the reference and with
+//! the exports.
 
 use grid_tests::records::{ActivityRow, Choice, Model, Plan, ThreadRow};
 use grid_tests::{proved, reference, Answer};
@@ -77,6 +78,27 @@ fn run_refused(model: &Model, choice: &Choice, length: usize, answer: Answer, cl
     let buffer = run(model, choice, length, answer);
     assert!(buffer[..cleared].iter().all(|&byte| byte == 0));
     assert!(buffer[cleared..].iter().all(|&byte| byte == 0xaa));
+}
+
+/// The row of an activity whose thread has no period.
+const DASH: i32 = -2147483648;
+
+/// A list of this length before a call.
+fn list(length: usize) -> Vec<i32> {
+    (0..length).map(|a| if a % 2 == 0 { 1000 + a as i32 } else { -7 - a as i32 }).collect()
+}
+
+/// Reports over a list of this length; both programs must give this answer, write these rows and keep all others.
+fn lateness(model: &Model, choice: &Choice, length: usize, answer: Answer, rows: &[i32]) {
+    let (model, choice) = (model.bytes(), choice.bytes());
+    let mut expected = list(length);
+    expected[..rows.len()].copy_from_slice(rows);
+    let mut ours = list(length);
+    let mut theirs = list(length);
+    assert_eq!(answer, reference::lateness(&model, &choice, &mut ours).into());
+    assert_eq!(answer, proved::lateness(&model, &choice, &mut theirs));
+    assert_eq!(ours, expected);
+    assert_eq!(theirs, expected);
 }
 
 #[test]
@@ -166,12 +188,87 @@ fn buffers() {
 }
 
 #[test]
+fn lateness_of_s() {
+    let answer = Answer::accepted(5, 8, 6, 61);
+    for length in [32, 33, 100] {
+        lateness(&model(), &choice(), length, answer, &[DASH, 4, 2]);
+    }
+}
+
+#[test]
+fn lateness_of_other_periods() {
+    let mut model = model();
+    model.threads[1].period = (5, 8);
+    let mut choice = choice();
+    choice.threads[1].1 = 6;
+    lateness(&model, &choice, 32, Answer::accepted(5, 8, 6, 61), &[DASH, 2, 0]);
+    choice.threads[1].1 = 5;
+    lateness(&model, &choice, 32, refused(43, 2, 0), &[DASH, 1, -1]);
+    // Later rows are filled too where an earlier one is late.
+    model.threads[1].period = (1, 8);
+    choice.threads[1].1 = 1;
+    lateness(&model, &choice, 33, refused(43, 1, 0), &[DASH, -3, -5]);
+}
+
+#[test]
+fn lateness_of_something_owed() {
+    let mut model = model();
+    model.horizon = 6;
+    lateness(&model, &choice(), 32, Answer::accepted(5, 6, 6, 53), &[DASH, 4, 2]);
+    model.horizon = 5;
+    lateness(&model, &choice(), 32, refused(42, 2, 0), &[]);
+}
+
+#[test]
+fn lateness_of_32_activities() {
+    let mut model = model();
+    model.horizon = 32;
+    model.threads[1].period = (16, 32);
+    model.activities =
+        (0..32).map(|a| ActivityRow { thread: a % 2, duration: (1, 1), delay: 0, temporal: 0, data: 0 }).collect();
+    let mut choice = Choice { threads: vec![(0, 0), (0, 32)], durations: vec![1; 32] };
+    // The even activities go first, then odd activity a ends at 17 + a / 2.
+    let rows = |period: i32| (0..32).map(|a| if a % 2 == 0 { DASH } else { period - 17 - a / 2 }).collect::<Vec<_>>();
+    lateness(&model, &choice, 32, Answer::accepted(32, 32, 32, 273), &rows(32));
+    lateness(&model, &choice, 34, Answer::accepted(32, 32, 32, 273), &rows(32));
+    choice.threads[1].1 = 31;
+    lateness(&model, &choice, 32, refused(43, 31, 0), &rows(31));
+    choice.threads[1].1 = 16;
+    lateness(&model, &choice, 32, refused(43, 1, 0), &rows(16));
+}
+
+#[test]
+fn lists_too_short() {
+    for length in [0, 1, 2, 3, 31] {
+        lateness(&model(), &choice(), length, refused(50, 0, 0), &[]);
+    }
+    // Before 42 and 43, after the input.
+    let mut owed = model();
+    owed.horizon = 5;
+    lateness(&owed, &choice(), 31, refused(50, 0, 0), &[]);
+    let mut late = model();
+    late.threads[1].period = (5, 8);
+    let mut chosen = choice();
+    chosen.threads[1].1 = 5;
+    lateness(&late, &chosen, 31, refused(50, 0, 0), &[]);
+    let mut release = choice();
+    release.threads[0].0 = 3;
+    lateness(&model(), &release, 31, refused(12, 0, 0), &[]);
+    lateness(&model(), &release, 32, refused(12, 0, 0), &[]);
+    let mut duration = choice();
+    duration.durations[0] = 3;
+    lateness(&model(), &duration, 0, refused(13, 0, 0), &[]);
+    lateness(&model(), &duration, 32, refused(13, 0, 0), &[]);
+}
+
+#[test]
 fn own_bit_in_a_mask() {
     let mut model = model();
     let plan = plan(&model, [&[1, 2], &[0, 3], &[5]]);
     model.activities[1].temporal = 2;
     check(&model, &plan, refused(7, 1, 0), refused(7, 1, 0));
     run_refused(&model, &choice(), 61, refused(7, 1, 0), 0);
+    lateness(&model, &choice(), 32, refused(7, 1, 0), &[]);
 }
 
 #[test]
@@ -182,4 +279,8 @@ fn empty_records() {
     assert_eq!(proved::check_plain(&model().bytes(), &[]), refused(8, 0, 0));
     assert_eq!(proved::check_strict(&[], &[]), refused(1, 0, 0));
     assert_eq!(out, [0xaa; 70]);
+    let mut rows = list(32);
+    assert_eq!(proved::lateness(&[], &[], &mut rows), refused(1, 0, 0));
+    assert_eq!(proved::lateness(&model().bytes(), &[], &mut rows), refused(8, 0, 0));
+    assert_eq!(rows, list(32));
 }

@@ -1,7 +1,7 @@
 //! Times the exports against the reference.
 //!
 //! `bench` prints the table. `bench CALL WHICH PAGE HORIZON TIMES` makes one call many times, for a profiler: CALL is
-//! plain, strict or run, WHICH is proved or reference, PAGE is a name from the table.
+//! plain, strict, run or lateness, WHICH is proved or reference, PAGE is a name from the table.
 
 use std::hint::black_box;
 use std::process::ExitCode;
@@ -10,7 +10,7 @@ use std::time::{Duration, Instant};
 use grid_tests::records::{ActivityRow, Choice, Model, ThreadRow};
 use grid_tests::{proved, reference, Answer};
 
-/// A page with its records; the plan is the run's own, so that all three calls accept.
+/// A page with its records; the plan is the run's own, so that all four calls accept.
 struct Page {
     model: Vec<u8>,
     choice: Vec<u8>,
@@ -161,7 +161,7 @@ fn page(name: &str, horizon: usize) -> Page {
     Page { model, choice, plan }
 }
 
-const CALLS: [&str; 3] = ["plain", "strict", "run"];
+const CALLS: [&str; 4] = ["plain", "strict", "run", "lateness"];
 const SIDES: [&str; 2] = ["proved", "reference"];
 
 /// Makes one call; `out` is as long as the plan.
@@ -171,9 +171,11 @@ fn call(call: &str, which: &str, page: &Page, out: &mut [u8]) -> Answer {
         ("plain", "proved") => proved::check_plain(model, plan),
         ("strict", "proved") => proved::check_strict(model, plan),
         ("run", "proved") => proved::run(model, choice, out),
+        ("lateness", "proved") => proved::lateness(model, choice, black_box(&mut [0; 32])),
         ("plain", "reference") => reference::check_plain(model, plan).into(),
         ("strict", "reference") => reference::check_strict(model, plan).into(),
         ("run", "reference") => reference::run(model, choice, out).into(),
+        ("lateness", "reference") => reference::lateness(model, choice, black_box(&mut [0; 32])).into(),
         _ => panic!("no such call"),
     }
 }
@@ -203,18 +205,18 @@ fn time(name: &str, page: &Page) -> [f64; 2] {
 
 fn table() {
     println!("microseconds of one call, all accepted; ratio is proved / reference");
-    println!("{:<10} {:>5}  {:<7} {:>10} {:>10} {:>6}", "page", "H", "call", SIDES[0], SIDES[1], "ratio");
+    println!("{:<10} {:>5}  {:<8} {:>10} {:>10} {:>6}", "page", "H", "call", SIDES[0], SIDES[1], "ratio");
     for &(name, horizon) in PAGES {
         let page = page(name, horizon);
         for call in CALLS {
             let [ours, theirs] = time(call, &page);
-            println!("{name:<10} {horizon:>5}  {call:<7} {ours:>10.2} {theirs:>10.2} {:>6.2}", ours / theirs);
+            println!("{name:<10} {horizon:>5}  {call:<8} {ours:>10.2} {theirs:>10.2} {:>6.2}", ours / theirs);
         }
     }
     println!();
     println!("cost against the horizon, page {GROWING}: microseconds, and nanoseconds for each tick");
     println!(
-        "{:<7} {:>5}  {:>10} {:>10} {:>6} {:>12} {:>12}",
+        "{:<8} {:>5}  {:>10} {:>10} {:>6} {:>12} {:>12}",
         "call", "H", SIDES[0], SIDES[1], "ratio", "proved/tick", "ref./tick"
     );
     for call in CALLS {
@@ -222,7 +224,7 @@ fn table() {
             let [ours, theirs] = time(call, &page(GROWING, horizon));
             let tick = 1000.0 / horizon as f64;
             println!(
-                "{call:<7} {horizon:>5}  {ours:>10.2} {theirs:>10.2} {:>6.2} {:>12.1} {:>12.1}",
+                "{call:<8} {horizon:>5}  {ours:>10.2} {theirs:>10.2} {:>6.2} {:>12.1} {:>12.1}",
                 ours / theirs,
                 ours * tick,
                 theirs * tick
@@ -263,7 +265,7 @@ fn main() -> ExitCode {
     if words.is_empty() {
         table();
     } else if repeat(&words).is_none() {
-        eprintln!("usage: bench [plain|strict|run proved|reference PAGE HORIZON TIMES]");
+        eprintln!("usage: bench [plain|strict|run|lateness proved|reference PAGE HORIZON TIMES]");
         return ExitCode::from(2);
     }
     ExitCode::SUCCESS

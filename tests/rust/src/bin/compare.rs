@@ -1,6 +1,7 @@
 //! Compares the exports with the reference over many pairs of records: a model and a plan by both checks, a model and a
-//! choice by the run. It stops at the first difference, prints that case and exits with 1. It prints how often each call
-//! gave each answer, and exits with 1 if one that the call can give came fewer than a hundred times.
+//! choice by the run and by the report of lateness, with the whole of what these two were lent; the report is then held
+//! against the exported run. It stops at the first difference, prints that case and exits with 1. It prints how often each
+//! call gave each answer, and exits with 1 if one that the call can give came fewer than a hundred times.
 //!
 //! `compare [CASES]` tries cases 0 to CASES - 1, `compare FIRST..END` those from FIRST to END - 1, of which no number of
 //! answers is asked.
@@ -14,21 +15,27 @@ use grid_tests::{proved, reference, Answer};
 
 const SEED: u64 = 2011;
 const CASES: u64 = 500_000;
-/// Bytes kept around the lent buffer, to see that nothing outside it is written.
+/// Bytes kept around the lent buffer, and rows around the lent list, to see that nothing outside them is written.
 const MARGIN: usize = 64;
 const MARGIN_BYTE: u8 = 0x5c;
+const MARGIN_ROW: i32 = 0x5c5c_5c5c;
+/// No plan has more bytes.
+const LONGEST_PLAN: usize = 16_553;
+/// The row of an activity whose thread has no period.
+const DASH: i32 = -2_147_483_648;
 
-const CALLS: [&str; 3] = ["plain", "strict", "run"];
+const CALLS: [&str; 4] = ["plain", "strict", "run", "lateness"];
 /// How often each answer that a call can give must come.
 const LEAST: u64 = 100;
 /// What each call can answer, where 0 stands for accepted. 24 follows from 21, so it is never the first broken.
 const CHECKED: &[usize] = &[0, 1, 2, 3, 4, 5, 6, 7, 8, 9, 10, 11, 12, 14, 21, 22, 23, 25, 26, 27, 28, 29];
 const CHECKED_STRICTLY: &[usize] = &[30, 31];
 const RUN: &[usize] = &[0, 1, 2, 3, 4, 5, 6, 7, 8, 9, 10, 11, 12, 13, 41, 42, 43];
+const LATENESS: &[usize] = &[0, 1, 2, 3, 4, 5, 6, 7, 8, 9, 10, 11, 12, 13, 42, 43, 50];
 
 /// How often each number was answered, for each call.
 #[derive(Clone)]
-struct Counts([[u64; 64]; 3]);
+struct Counts([[u64; 64]; 4]);
 
 impl Counts {
     fn add(&mut self, other: &Counts) {
@@ -43,23 +50,24 @@ impl Counts {
         match call {
             0 => CHECKED.contains(&number),
             1 => CHECKED.contains(&number) || CHECKED_STRICTLY.contains(&number),
-            _ => RUN.contains(&number),
+            2 => RUN.contains(&number),
+            _ => LATENESS.contains(&number),
         }
     }
 
     fn print(&self) {
-        let row = |name: &str, cells: [String; 3]| {
-            println!("{name:>9} {:>9} {:>9} {:>9}", cells[0], cells[1], cells[2]);
+        let row = |name: &str, cells: [String; 4]| {
+            println!("{name:>9} {:>9} {:>9} {:>9} {:>9}", cells[0], cells[1], cells[2], cells[3]);
         };
         row("answer", CALLS.map(str::to_string));
         for number in 0..64 {
             let shown = |call: usize| self.0[call][number] > 0 || Counts::can_answer(call, number);
             let cell = |call: usize| if shown(call) { self.0[call][number].to_string() } else { "-".to_string() };
-            if (0..3).any(shown) {
-                row(&name(number), [0, 1, 2].map(cell));
+            if (0..4).any(shown) {
+                row(&name(number), [0, 1, 2, 3].map(cell));
             }
         }
-        row("all", [0, 1, 2].map(|call| self.0[call].iter().sum::<u64>().to_string()));
+        row("all", [0, 1, 2, 3].map(|call| self.0[call].iter().sum::<u64>().to_string()));
     }
 
     /// What is wrong with the counts: an answer reached too seldom, or one that the call cannot give.
@@ -95,11 +103,12 @@ fn hex(bytes: &[u8]) -> String {
 /// A difference, ready to be printed.
 fn difference(case: &Case, call: &str, ours: impl std::fmt::Debug, theirs: impl std::fmt::Debug) -> String {
     format!(
-        "{call}: {}\nmodel {}\nsecond {}\nbuffer {}\nreference {ours:?}\nexport {theirs:?}",
+        "{call}: {}\nmodel {}\nsecond {}\nbuffer {}\nrows {}\nreference {ours:?}\nexport {theirs:?}",
         case.kind,
         hex(&case.model),
         hex(&case.second),
         case.buffer.as_deref().map_or("none".to_string(), hex),
+        case.rows.as_ref().map_or("none".to_string(), |rows| format!("{rows:?}")),
     )
 }
 
@@ -130,6 +139,35 @@ fn compare(case: &Case, counts: &mut Counts) -> Result<(), String> {
             return Err(difference(case, "run, the buffer", hex(&expected), hex(&buffer)));
         }
     }
+    if let Some(before) = &case.rows {
+        let mut expected = before.clone();
+        let expected_answer = reference::lateness(model, second, &mut expected).into();
+        let (answer, rows) = lateness_proved(model, second, before)
+            .map_err(|text| difference(case, "lateness", text, "a row outside the list was written"))?;
+        answered(3, expected_answer, answer)?;
+        if rows != expected {
+            return Err(difference(case, "lateness, the rows", expected, rows));
+        }
+        beside_the_run(case, before, answer, &rows)?;
+    }
+    Ok(())
+}
+
+/// The report answers as the exported run does with room enough, but for 50, and the rows' signs match that answer: dashes
+/// aside, the first negative row is the activity of 43, and a good run has none.
+fn beside_the_run(case: &Case, before: &[i32], answer: Answer, rows: &[i32]) -> Result<(), String> {
+    let run = proved::run(&case.model, &case.second, &mut [MARGIN_BYTE; LONGEST_PLAN]);
+    let from_input = (1..=13).contains(&run.number);
+    let expected = if before.len() < 32 && !from_input { Answer::refused(50, 0, 0) } else { run };
+    if answer != expected {
+        return Err(difference(case, "lateness beside the run", expected, answer));
+    }
+    let filled = if [0, 43].contains(&answer.number) { usize::from(case.model[7]) } else { 0 };
+    let first_late = rows[..filled].iter().position(|&row| row < 0 && row != DASH);
+    let named = (answer.number == 43).then_some(answer.first as usize);
+    if first_late != named || rows[filled..] != before[filled..] {
+        return Err(difference(case, "lateness, rows beside the run", answer, rows));
+    }
     Ok(())
 }
 
@@ -153,6 +191,19 @@ fn run_proved(model: &[u8], choice: &[u8], buffer: &[u8]) -> Result<(Answer, Vec
     let margins = space[..MARGIN].iter().chain(&space[end..]);
     if margins.into_iter().any(|&byte| byte != MARGIN_BYTE) {
         return Err(hex(&space));
+    }
+    Ok((answer, space[MARGIN..end].to_vec()))
+}
+
+/// The export's answer and the list after it; refused if a row around the list was changed.
+fn lateness_proved(model: &[u8], choice: &[u8], rows: &[i32]) -> Result<(Answer, Vec<i32>), String> {
+    let mut space = vec![MARGIN_ROW; rows.len() + 2 * MARGIN];
+    let end = MARGIN + rows.len();
+    space[MARGIN..end].copy_from_slice(rows);
+    let answer = proved::lateness(model, choice, &mut space[MARGIN..end]);
+    let margins = space[..MARGIN].iter().chain(&space[end..]);
+    if margins.into_iter().any(|&row| row != MARGIN_ROW) {
+        return Err(format!("{space:?}"));
     }
     Ok((answer, space[MARGIN..end].to_vec()))
 }
@@ -181,12 +232,12 @@ fn main() -> ExitCode {
     };
     let workers = thread::available_parallelism().map_or(1, |count| count.get() as u64);
     let stopped = AtomicBool::new(false);
-    let mut counts = Counts([[0; 64]; 3]);
+    let mut counts = Counts([[0; 64]; 4]);
     let mut same = true;
     thread::scope(|scope| {
         let stopped = &stopped;
         let work = move |worker: u64| {
-            let mut counts = Counts([[0; 64]; 3]);
+            let mut counts = Counts([[0; 64]; 4]);
             let mut number = first + worker;
             while number < end && !stopped.load(Ordering::Relaxed) {
                 if let Err(text) = compare(&cases::make(SEED, number), &mut counts) {
