@@ -37,7 +37,7 @@ use Rattle.laws.proofs.VerdictLaws.{input-number, report-from-input, report-ans
 use Rattle.laws.proofs.RuleNumbers.{AllRules, rules-append, first-broken-rule}
 use Rattle.laws.proofs.Opened.{form-rules, check-rules}
 use Rattle.laws.proofs.Ranges.{chosen-release-lt, chosen-period-lt}
-use Rattle.laws.proofs.Formed.{model-says}
+use Rattle.laws.proofs.Formed.{input-formed}
 use Rattle.laws.proofs.LatenessLaws.{rows-filled, rows-at}
 use Rattle.laws.proofs.LinesLaws.{second-bytes}
 use Rattle.laws.proofs.LineLengths.{
@@ -320,7 +320,7 @@ lines-fit v n rows false e short h = rw (e, lateLines) (omega (arith, last-most 
 
 -- gridlate's lines have at most 366 bytes
 pub gridlate-fits : (input : List ℕ) → Bytes input → length (gridlate input) ≤ 366
-unfolding gridlate reportRows runChecks
+unfolding gridlate reportRows
 gridlate-fits input bytes = by (firstRecord (taken input)) (secondRecord (taken input)) (second-bytes input bytes)
   where
     by : (s q : List ℕ) → Bytes q
@@ -328,7 +328,7 @@ gridlate-fits input bytes = by (firstRecord (taken input)) (secondRecord (taken 
     by s q b =
         let v : Answer Written = reportAnswer s q rowsNeeded in
         lines-fit v (model s .activities) (reportRows s q (replicate rowsNeeded (pos 0))) (fills v) refl (report-short s q b) (λ e.
-        let formed = model-says s (hold-append (modelForm s) (choiceForm (model s) q) .0 (filled-checked s q rowsNeeded e) .0) in (
+        let formed = input-formed s q (filled-checked s q rowsNeeded e) in (
           formed .activities .1,
           λ a l.
               rw (rows-filled v (model s) (choice q) (replicate rowsNeeded (pos 0)) e, rows-at (pos 0) (model s .activities) _ _ a l)

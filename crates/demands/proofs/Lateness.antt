@@ -9,30 +9,31 @@ use mathlib.Core.List.{List, [], _∷_}
 use mathlib.Core.Logic.{_↔_, ⊎-elim, inl}
 use mathlib.Core.Option.{Option, some, none, Option·none-ne-some}
 use mathlib.Core.Path.{_≡_, refl, sym, subst, ap, _∙_}
-use lib.Dec.{eqb, ltb→lt}
-use lib.IntN.{ℤ, pos, negsuc, _+ℤ_}
+use lib.Dec.{ltb→lt}
+use lib.IntN.{ℤ, pos, negsuc}
 use lib.ListN.{length}
 use borrow.Author.Tests.{eq-eqb, ne-eqb}
-use Rattle.schedule.specs.Rule.{Rule, Refusal, break, firstBreak, Everywhere, AllHold, BrokenAt, FirstBroken}
+use Rattle.schedule.specs.Rule.{Rule, Refusal, break, firstBreak, AllHold, BrokenAt, FirstBroken}
 use Rattle.schedule.specs.declared.RunRefusal.{RunRefusal}
 use Rattle.schedule.specs.Numbers.{runNumber}
-use Rattle.schedule.specs.Model.{Model, Formed, model, modelForm}
-use Rattle.schedule.specs.Timing.{deadline, InTime, deadlineRule}
-use Rattle.schedule.specs.Choice.{Choice, choice, choiceTiming, choiceForm}
+use Rattle.schedule.specs.Model.{Model, Formed, model}
+use Rattle.schedule.specs.Timing.{InTime, deadlineRule}
+use Rattle.schedule.specs.Choice.{Choice, choice, choiceTiming}
 use Rattle.schedule.specs.Machine.{machineEnd}
 use Rattle.schedule.specs.Checks.{rule23}
-use Rattle.schedule.specs.Answers.{Answer, accepted, refused, answer, machinePlan, owedRule, runRules, Written, lengthNeeded, written}
+use Rattle.schedule.specs.Answers.{accepted, refused, answer, machinePlan, owedRule, runRules, Written, lengthNeeded, written}
 use Rattle.schedule.specs.Answers.{runChecks, runAnswer}
-use Rattle.schedule.specs.Report.{dash, lateness, reportRow, rowsNeeded, rowsRule, reportRules, reportAnswer, rowsAfter, reportRows, fills}
+use Rattle.schedule.specs.Report.{dash, reportRow, rowsNeeded, rowsRule, reportRules, reportAnswer, reportRows, fills}
 use Rattle.schedule.specs.Lines.{runRoom}
-use Rattle.laws.proofs.FirstBreak.{AllSound, none-iff, some-iff, break-none, break-some, hold-append, rule-stops, rule-goes-on, says, sound-append, _&_}
-use Rattle.laws.proofs.Formed.{model-says}
+use Rattle.laws.proofs.FirstBreak.{none-iff, some-iff, break-some, hold-append, rule-stops, rule-goes-on, says}
+use Rattle.laws.proofs.Formed.{input-formed}
 use Rattle.laws.proofs.LatenessLaws.{figure-late, figure-kept, without-period, sub-kept}
 use Rattle.laws.proofs.LatenessLaws.{rowsThen, rows-at, rows-beyond, length-rows, rows-filled, rows-kept}
 use Rattle.laws.proofs.MachinePlan.{end-le}
 use Rattle.laws.proofs.Sound.{runRules-sound, runChecks-sound, reportRules-sound}
 use Rattle.laws.proofs.VerdictLaws.{answer-accepted, answer-refused}
-use Rattle.laws.proofs.VerdictLaws.{accepted-is-not-refused, input-number, report-answer, report-from-input, report-past-input, rows-short, rows-enough}
+use Rattle.laws.proofs.VerdictLaws.{accepted-is-not-refused, input-number, report-answer, report-from-input}
+use Rattle.laws.proofs.VerdictLaws.{report-past-input, rows-short, rows-enough}
 use Rattle.demands.specs.Lateness.{rowOf, Late, endOf, deadlineOf, HasPeriod, RightRow, Filled, FirstLate, RightReport}
 use Rattle.demands.proofs.Demand2.{run-input, run-input-refused}
 
@@ -80,17 +81,23 @@ module _ (m : Model) (q : Choice) (a : ℕ) where
 
   right-row : Formed m → a < m .activities → RightRow m q a (reportRow m q a)
   unfolding reportRow machineEnd
-  right-row formed l = elim (ℕ-discrete (q .period (m .thread a)) 0) [
-    | yes e ↦ subst (RightRow m q a) (sym (without-period (q .release (m .thread a)) (q .period (m .thread a)) (endOf m q a) e)) (dash-row e)
+  right-row formed l = elim (ℕ-discrete period 0) [
+    | yes e ↦ subst (RightRow m q a) (sym (without-period release period (endOf m q a) e)) (dash-row e)
     | no e ↦ elim (decLt (deadlineOf m q a) (endOf m q a)) [
       | yes late ↦
-          subst (RightRow m q a) (sym (figure-late (q .release (m .thread a)) (q .period (m .thread a)) (endOf m q a) e late))
+          subst (RightRow m q a) (sym (figure-late release period (endOf m q a) e late))
           (late-row e late (omega (arith, end-le m (q .release) (q .duration) (m .horizon) a l, formed .horizon .1)))
       | no late ↦
           let kept : endOf m q a ≤ deadlineOf m q a = omega arith in
-          subst (RightRow m q a) (sym (figure-kept (q .release (m .thread a)) (q .period (m .thread a)) (endOf m q a) e kept)) (kept-row e kept)
+          subst (RightRow m q a) (sym (figure-kept release period (endOf m q a) e kept)) (kept-row e kept)
     ]
   ]
+    where
+      release : ℕ
+      release = q .release (m .thread a)
+
+      period : ℕ
+      period = q .period (m .thread a)
 
 -- ---- a list that is filled
 
@@ -124,10 +131,10 @@ answers-as-the-run = report-answer
 
 -- So its last line is gridrun's.
 pub answers-as-gridrun : (s q : List ℕ) → reportAnswer s q rowsNeeded ≡ runAnswer s q runRoom
-unfolding runChecks lengthNeeded
+unfolding lengthNeeded
 answers-as-gridrun s q = ⊎-elim
     (λ h.
-    let formed = model-says s (hold-append (modelForm s) (choiceForm (model s) q) .0 h .0) in
+    let formed = input-formed s q h in
     report-answer s q rowsNeeded runRoom (omega arith)
     (omega (arith, formed .threads .1, formed .activities .1, formed .horizon .1)))
     (λ b.
@@ -222,18 +229,13 @@ module _ (s q : List ℕ) (list : List ℤ) where
                 (none-iff (runChecks s q) (runChecks-sound s q) .0 f, enough, past (firstBreak rules) refl said)
           ]
 
-  -- the model of a report that is filled meets its form rules
-  formed-by : AllHold (runChecks s q) → Formed (model s)
-  unfolding runChecks
-  formed-by h = model-says s (hold-append (modelForm s) (choiceForm (model s) q) .0 h .0)
-
   -- the list after an answer that fills
   filled-by : AllHold (runChecks s q) → rowsNeeded ≤ length list → fills (reportAnswer s q (length list)) ≡ true
       → Filled (model s) (choice q) list (reportRows s q list)
   unfolding reportRows
   filled-by h enough e =
       subst (Filled (model s) (choice q) list) (sym (rows-filled _ (model s) (choice q) list e))
-      (right-rows (model s) (choice q) list (formed-by h) enough)
+      (right-rows (model s) (choice q) list (input-formed s q h) enough)
 
   -- rule 23 of the machine's plan is rule 43 of the run
   kept-by : (a : ℕ) → InTime (model s) (choiceTiming (choice q)) (endOf (model s) (choice q)) a

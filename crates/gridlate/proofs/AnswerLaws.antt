@@ -11,7 +11,7 @@ use Rattle.schedule.specs.Fields.{Bytes}
 use Rattle.schedule.specs.Model.{model}
 use Rattle.schedule.specs.Answers.{Answer, Written}
 use Rattle.schedule.specs.Report.{rowsNeeded, reportAnswer, reportRows}
-use Rattle.schedule.specs.Streams.{inputLimit, firstRecord, secondRecord, taken}
+use Rattle.schedule.specs.Streams.{inputLimit, firstRecord, secondRecord}
 use Rattle.schedule.specs.Lines.{lateLines, gridlate}
 use Rattle.laws.proofs.LinesLaws.{taken-whole}
 use Rattle.demands.proofs.Fits.{gridlate-fits}

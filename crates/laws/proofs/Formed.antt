@@ -11,10 +11,11 @@ use Rattle.schedule.specs.Fields.{Bytes}
 use Rattle.schedule.specs.Rule.{firstBreak, AllHold}
 use Rattle.schedule.specs.Model.{Model, model, modelForm, Within, Formed}
 use Rattle.schedule.specs.Choice.{Choice, choice, choiceThreadRow, choiceForm}
+use Rattle.schedule.specs.Answers.{runChecks}
 use Rattle.schedule.specs.Numbers.{formNumber}
 use Rattle.laws.proofs.FieldLaws.{field-lt}
-use Rattle.laws.proofs.FirstBreak.{says, none-iff}
-use Rattle.laws.proofs.Sound.{modelForm-sound}
+use Rattle.laws.proofs.FirstBreak.{says, none-iff, hold-append}
+use Rattle.laws.proofs.Sound.{runChecks-sound}
 use Rattle.laws.proofs.Opened.{form-rules}
 
 -- rules 3, 6 and 7
@@ -42,9 +43,13 @@ model-says s h =
       };
     }
 
--- where no form rule is broken
-pub form-holds : (s : List ℕ) → firstBreak (modelForm s) ≡ none → Formed (model s)
-form-holds s e = model-says s (none-iff (modelForm s) (modelForm-sound s) .0 e)
+-- where the input of a run passes, its model meets its form rules
+pub input-formed : (s q : List ℕ) → AllHold (runChecks s q) → Formed (model s)
+unfolding runChecks
+input-formed s q h = model-says s (hold-append (modelForm s) (choiceForm (model s) q) .0 h .0)
+
+pub input-holds : (s q : List ℕ) → firstBreak (runChecks s q) ≡ none → Formed (model s)
+input-holds s q e = input-formed s q (none-iff (runChecks s q) (runChecks-sound s q) .0 e)
 
 -- rules 12 and 13, and that the choices are fields of two bytes
 pub record Chosen (m : Model) (q : Choice) : Type 0 where

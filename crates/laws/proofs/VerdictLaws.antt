@@ -112,7 +112,8 @@ module _ (s q : List ℕ) where
   unfolding runChecks modelForm choiceForm form-rules
   input-numbers =
       rules-append (λ r. OfInput (r .number)) (modelForm s) (choiceForm (model s) q)
-      ((refl, refl) & (refl, refl) & (refl, refl) & (refl, refl) & (refl, refl) & (refl, refl) & (refl, refl) & tt) ((refl, refl) & (refl, refl) & (refl, refl) & (refl, refl) & (refl, refl) & (refl, refl) & tt)
+      ((refl, refl) & (refl, refl) & (refl, refl) & (refl, refl) & (refl, refl) & (refl, refl) & (refl, refl) & tt)
+      ((refl, refl) & (refl, refl) & (refl, refl) & (refl, refl) & (refl, refl) & (refl, refl) & tt)
 
   pub input-number : (x : Refusal) → firstBreak (runChecks s q) ≡ some x → OfInput (x .number)
   input-number x e =

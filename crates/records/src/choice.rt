@@ -3,6 +3,7 @@ use crate::Pass;
 use crate::form;
 use crate::model;
 use crate::model::Activity;
+use crate::model::ModelRead;
 use crate::model::Thread;
 use crate::plan::Timing;
 use crate::rows;
@@ -15,6 +16,7 @@ ghost use mathlib.Core.Path.{_≡_};
 ghost use Rattle.schedule.specs.Rule.{break, firstBreak};
 ghost use Rattle.schedule.specs.Model.{model};
 ghost use Rattle.schedule.specs.Choice.{choice, choiceForm, choiceLength, durationAt, durationRule};
+ghost use Rattle.schedule.specs.Answers.{runChecks};
 ghost use Rattle.records.specs.Rows.{timing};
 ghost use Rattle.records.specs.Reads.{rowAnswer, rowReadNumbers, passNumbers, choiceReadNumbers};
 
@@ -118,4 +120,19 @@ pub fn read(s: &[u8], q: &[u8]) -> ChoiceRead
         return ChoiceRead::Refused(x);
     }
     ChoiceRead::Choice
+}
+
+// The input of a run: "The model is tried first, in list order", then the choice beside it.
+pub fn read_both(s: &[u8], q: &[u8]) -> Pass
+    ensures { λ r. ⌜ passNumbers r ≡ firstBreak (runChecks (now (s .entry)) (now (q .entry))) ⌝ }
+{
+    let first = model::read(s);
+    if let ModelRead::Refused(x) = first {
+        return Pass::Refused(x);
+    }
+    let second = read(s, q);
+    if let ChoiceRead::Refused(x) = second {
+        return Pass::Refused(x);
+    }
+    Pass::Holds
 }

@@ -1,7 +1,5 @@
 // "Lateness in a table": for each activity of a run the deadline less its end.
 use records::Pass;
-use records::choice::ChoiceRead;
-use records::model::ModelRead;
 use schedule::Place;
 use schedule::Refusal;
 use schedule::RunRefusal;
@@ -69,12 +67,8 @@ pub fn lateness(model: &[u8], choice: &[u8], list: &mut [i32]) -> RunVerdict
     ensures { λ r. ⌜ (runNumbers r ≡ reportAnswer (now (model .entry)) (now (choice .entry)) (length (now (list .entry))))
         × (now (list .exit) ≡ reportRows (now (model .entry)) (now (choice .entry)) (now (list .entry))) ⌝ }
 {
-    let first = records::model::read(model);
-    if let ModelRead::Refused(x) = first {
-        return RunVerdict::Refused(x);
-    }
-    let second = records::choice::read(model, choice);
-    if let ChoiceRead::Refused(x) = second {
+    let input = records::choice::read_both(model, choice);
+    if let Pass::Refused(x) = input {
         return RunVerdict::Refused(x);
     }
     attempt(model, choice, list)

@@ -228,7 +228,8 @@ room-answers m q l x h e =
 
 -- with room, what was concluded of the buffer with the grid holds of the buffer as it was lent
 pub outcome-answers : (m : Model) (q : Choice) (l out out′ : List ℕ) (judged : Pass) (ends : List ℕ) (r : RunVerdict)
-    → lengthNeeded m ≤ length l → Placed m q l out judged ends → Answers (concluded m q) m q out out′ r → Answers (outcome m q (length l)) m q l out′ r
+    → lengthNeeded m ≤ length l → Placed m q l out judged ends → Answers (concluded m q) m q out out′ r
+    → Answers (outcome m q (length l)) m q l out′ r
 outcome-answers m q l out out′ judged ends r h p a =
     let o = outcome-fits m q (length l) h in
     record {

@@ -1,7 +1,5 @@
 // The priority run.
 use records::Pass;
-use records::choice::ChoiceRead;
-use records::model::ModelRead;
 use schedule::Place;
 use schedule::Refusal;
 use schedule::RunRefusal;
@@ -58,12 +56,8 @@ pub fn run(model: &[u8], choice: &[u8], out: &mut [u8]) -> RunVerdict
     ensures { λ r. ⌜ (runNumbers r ≡ runAnswer (now (model .entry)) (now (choice .entry)) (length (now (out .entry))))
         × (now (out .exit) ≡ runBuffer (now (model .entry)) (now (choice .entry)) (now (out .entry))) ⌝ }
 {
-    let first = records::model::read(model);
-    if let ModelRead::Refused(x) = first {
-        return RunVerdict::Refused(x);
-    }
-    let second = records::choice::read(model, choice);
-    if let ChoiceRead::Refused(x) = second {
+    let input = records::choice::read_both(model, choice);
+    if let Pass::Refused(x) = input {
         return RunVerdict::Refused(x);
     }
     attempt(model, choice, out)

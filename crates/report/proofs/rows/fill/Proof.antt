@@ -54,7 +54,8 @@ slice-set-from-list c =
     let c5 = c .before .before .before .before .before in
     let l = c5 .loop in
     let x = c5 .before .args in
-    omega (arith, ap length (l .inv .1), length-rows (l .a) (rowFrom (x .releases .now) (x .periods .now) (x .ends .now)) (x .list .now) (omega arith))
+    let f : ℕ → ℤ = rowFrom (x .releases .now) (x .periods .now) (x .ends .now) in
+    omega (arith, ap length (l .inv .1), length-rows (l .a) f (x .list .now) (omega arith))
 
 add-a : tie.Need-add-a Inv-loop μ-loop
 add-a c = omega arith
