@@ -4,8 +4,8 @@
  * number of its rows, each an int32_t. No pointer may be null, even where the number is 0. `rows` is aligned as int32_t is;
  * no other pointer has to be aligned. The two records may overlap; neither `out` nor `rows` overlaps one of them. Only
  * grid_run and grid_lateness write, the one only into `out` and the other only into `rows`; with 16,553 bytes `out` is
- * never too short, and with 32 rows `rows` never is. The calls keep nothing, so that several threads may make them at once, each
- * with its own `out` or `rows`.
+ * never too short, and with 32 rows `rows` never is. The calls keep nothing, so that several threads may make them at
+ * once, each with its own `out` or `rows`.
  */
 #ifndef GRID_H
 #define GRID_H

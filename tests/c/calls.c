@@ -16,8 +16,8 @@ enum {
     MOST = 256,   /* room for any of the samples */
     ROWS = 32,    /* the rows of a list that suffices */
     LIST = 64,    /* room for any of the lists */
-    AROUND = 17,  /* bytes in front of and behind the lent buffer, which no call may change, so that it is not aligned; and
-                     rows in front of and behind the lent list */
+    AROUND = 17,  /* bytes in front of the lent buffer (so that it is not aligned) and behind it, and rows around the
+                     lent list; no call may change them */
     FILLED = 0xa5 /* what each byte of the buffer, of the list and around them is before a call */
 };
 

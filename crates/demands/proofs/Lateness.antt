@@ -50,14 +50,14 @@ module _ (m : Model) (q : Choice) (a : ℕ) where
 
   dash-row : (q .period (m .thread a) ≡ 0) → RightRow m q a dash
   dash-row e = record {
-    dashed = (λ _ has. has e, λ _. refl);
+    dashed = (λ _. e, λ _. refl);
     figure = λ has. absurd (has e);
     sign = (λ late. absurd (late .no-dash refl), λ broken. absurd (broken (kept-is .1 (λ has. absurd (has e)))));
   }
 
   kept-row : HasPeriod m q a → endOf m q a ≤ deadlineOf m q a → RightRow m q a (pos (deadlineOf m q a - endOf m q a))
   kept-row has kept = record {
-    dashed = (λ e. absurd (let z : _≡_ {A = ℕ} 0 1 = cc in omega arith), λ lacks. absurd (lacks has));
+    dashed = (λ e. absurd (let z : _≡_ {A = ℕ} 0 1 = cc in omega arith), λ lacks. absurd (has lacks));
     figure = λ _. ap pos (omega arith);
     sign = (
       λ late. absurd (omega (arith, ltb→lt (deadlineOf m q a - endOf m q a) 0 (late .negative .lt))),
@@ -68,7 +68,7 @@ module _ (m : Model) (q : Choice) (a : ℕ) where
   late-row : HasPeriod m q a → deadlineOf m q a < endOf m q a → endOf m q a ≤ 4096
       → RightRow m q a (negsuc (endOf m q a - suc (deadlineOf m q a)))
   late-row has late small = record {
-    dashed = (λ e. absurd (no-dash e), λ lacks. absurd (lacks has));
+    dashed = (λ e. absurd (no-dash e), λ lacks. absurd (has lacks));
     figure = λ _. sub-kept (endOf m q a) (suc (endOf m q a - suc (deadlineOf m q a))) (omega arith) ∙ ap pos (omega arith);
     sign = (
       λ _ kept. omega (arith, kept-is .0 kept has),
@@ -101,7 +101,7 @@ module _ (m : Model) (q : Choice) (a : ℕ) where
 
 -- ---- a list that is filled
 
-pub right-rows : (m : Model) (q : Choice) (list : List ℤ) → Formed m → rowsNeeded ≤ length list
+right-rows : (m : Model) (q : Choice) (list : List ℤ) → Formed m → rowsNeeded ≤ length list
     → Filled m q list (rowsThen (m .activities) (reportRow m q) list)
 right-rows m q list formed enough = record {
   rows = λ a l.
@@ -129,7 +129,7 @@ pub answers-as-the-run : (s q : List ℕ) (lent room : ℕ) → rowsNeeded ≤ l
     → reportAnswer s q lent ≡ runAnswer s q room
 answers-as-the-run = report-answer
 
--- So its last line is gridrun's.
+-- So it answers as the run that gridrun makes, and the last line of both is one.
 pub answers-as-gridrun : (s q : List ℕ) → reportAnswer s q rowsNeeded ≡ runAnswer s q runRoom
 unfolding lengthNeeded
 answers-as-gridrun s q = ⊎-elim
@@ -277,8 +277,11 @@ module _ (s q : List ℕ) (list : List ℤ) where
 
 -- The report's answer and its list are right, of every model's and choice's bytes and every lent list.
 pub right-report : (s q : List ℕ) (list : List ℤ)
-    → RightReport (model s) (choice q) (reportAnswer s q (length list)) list (reportRows s q list)
+    → RightReport s q (reportAnswer s q (length list)) list (reportRows s q list)
 right-report s q list = record {
+  as-the-run = λ enough room fits. answers-as-the-run s q (length list) room enough fits;
+  input = report-input-refused s q (length list);
+  short = λ l h. report-short-list s q (length list) h l;
   good = accepted-right s q list;
   late = late-right s q list;
   other = other-right s q list;

@@ -24,7 +24,7 @@ use Rattle.laws.proofs.MachinePlan.{end-le}
 
 -- ---- the difference of two numbers
 
-pub sub-late : (d e : ℕ) → d < e → subℕ d e ≡ negsuc (e - suc d)
+sub-late : (d e : ℕ) → d < e → subℕ d e ≡ negsuc (e - suc d)
 sub-late d e l = rw (lt-ltb d e l)
 
 pub sub-kept : (d e : ℕ) → e ≤ d → subℕ d e ≡ pos (d - e)
@@ -47,7 +47,7 @@ sub-small d e k h j = elim (decLt d e) [
 pub without-period : (release period end : ℕ) → period ≡ 0 → lateness release period end ≡ dash
 without-period release period end e = rw (eq-eqb period 0 e)
 
-pub with-period : (release period end : ℕ) → (¬ (period ≡ 0))
+with-period : (release period end : ℕ) → (¬ (period ≡ 0))
     → lateness release period end ≡ subℕ (deadline release period) end
 with-period release period end e = rw (ne-eqb period 0 e)
 
@@ -61,7 +61,7 @@ pub figure-kept : (release period end : ℕ) → (¬ (period ≡ 0)) → end ≤
 figure-kept release period end has kept = with-period release period end has ∙ sub-kept (deadline release period) end kept
 
 -- what holds of the dash, of the numbers below 0 by no more than the end, and of those up to the deadline, holds of a figure
-pub figure-holds : (P : ℤ → Type 0) (release period end : ℕ) → P dash → ((n : ℕ) → n < end → P (negsuc n))
+figure-holds : (P : ℤ → Type 0) (release period end : ℕ) → P dash → ((n : ℕ) → n < end → P (negsuc n))
     → ((n : ℕ) → n ≤ deadline release period → P (pos n)) → P (lateness release period end)
 figure-holds P release period end none late kept = elim (ℕ-discrete period 0) [
   | yes e ↦ subst P (sym (without-period release period end e)) none

@@ -1,4 +1,4 @@
-// The paper's numbers of the refusals, and a little arithmetic of figures and ticks.
+// The paper's numbers of the refusals, which answers fill the rows of the report, and a little arithmetic of figures and ticks.
 use schedule::FormRefusal;
 use schedule::Numbered;
 use schedule::Refusal;

@@ -14,12 +14,12 @@ use Rattle.records.specs.declared.Pass.{Pass}
 use Rattle.machine.specs.Played.{gridBytes, Ended}
 use Rattle.run.specs.Front.{gridOf}
 
--- The grid is written behind the rows.
+-- The grid is written behind the rows, and how the machine ended is known.
 pub record Placed (m : Model) (q : Choice) (out out′ : List ℕ) (judged : Pass) (ends : List ℕ) : Type 0 where
   pub written : out′ ≡ put (gridOf m) (gridBytes m q (m .horizon)) out
   pub ended : Ended m q judged ends
 
--- The grid stands in the buffer.
+-- The grid stands in the buffer, and how the machine ended is known.
 pub record Standing (m : Model) (q : Choice) (out : List ℕ) (judged : Pass) (ends : List ℕ) : Type 0 where
   pub room : lengthNeeded m ≤ length out
   pub grid : put (gridOf m) (gridBytes m q (m .horizon)) out ≡ out

@@ -13,7 +13,7 @@ ghost use Rattle.text.specs.Appended.{Appended};
 ghost use Rattle.text.specs.Rows.{linesOf, rowOf, minus, rowEnd, rowLine, lateText};
 
 // "for 43 too": how many lines there are before the last one.
-pub(crate) fn lines(answer: RunVerdict, activities: u8) -> u32
+pub(crate) fn line_count(answer: RunVerdict, activities: u8) -> u32
     ensures { λ r. ⌜ (r ≡ linesOf (runNumbers answer) activities) × (r ≤ 255) ⌝ }
 {
     let filled = numbers::fills(answer);

@@ -285,7 +285,7 @@ pub fn late_lines(out: &mut [u8], answer: RunVerdict, activities: u8, rows: &[i3
     ensures { λ r. ⌜ leaves r (now (out .exit))
         ≡ printed (lateLines (runNumbers answer) activities (now (rows .entry))) (now (out .entry)) ⌝ }
 {
-    let count = late::lines(answer, activities);
+    let count = late::line_count(answer, activities);
     let said = run_said(answer);
     let n = late::lines_length(rows, count) + line_length(b"run", said);
     if out.len() < n {

@@ -1,4 +1,4 @@
-//! An independent program of the paper's rules (`reference`), the exports of the proved code (`proved`) and what is
+//! An independent program of the papers' rules (`reference`), the exports of the proved code (`proved`) and what is
 //! needed to compare them. From this package's folder, where `rt` makes the archive as part of the build:
 //!
 //! - `cargo test --release`: the paper's cases and the solutions of source document 000, with both programs

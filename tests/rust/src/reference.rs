@@ -1,4 +1,4 @@
-//! The paper's rules as a plain program: the three records, the plain check, the strict check, the run and the report of
+//! The papers' rules as a plain program: the three records, the plain check, the strict check, the run and the report of
 //! lateness.
 //!
 //! The numbers in the comments are the paper's. Each number is tried over all its rows before the next one.

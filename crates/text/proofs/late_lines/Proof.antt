@@ -11,14 +11,14 @@ use Rattle.text.proofs.LateLaws.{late-parts}
 use Rattle.text.proofs.late_lines.Statement.{statement}
 use Rattle.text.proofs.late_lines.Tie as tie
 
-lines-requires : tie.Need-lines-requires
-lines-requires c κs = search needs
+line-count-requires : tie.Need-line-count-requires
+line-count-requires c κs = search needs
 
 run-said-requires : tie.Need-run-said-requires
 run-said-requires c κs = search needs
 
 lines-length-requires : tie.Need-lines-length-requires
-lines-length-requires c κs = c .before .lines .ensures .1
+lines-length-requires c κs = c .before .line-count .ensures .1
 
 slice-aggregate-line-length : tie.Need-slice-aggregate-line-length
 slice-aggregate-line-length c = search needs
@@ -34,7 +34,7 @@ returns c =
     let at-said = c .before .before .before .before in
     let at-count = at-said .before in
     let x = at-count .before .before .args in
-    let count = at-count .lines in
+    let count = at-count .line-count in
     let said = at-said .run-said in
     let e = late-parts (runNumbers (x .answer)) (x .activities) (x .rows .now) (count .ensures .0) (said .ensures) in
     printed-nothing (chain (count .result) (lateText (x .rows .now))) (line runName (said .result)) (x .out .now) e
@@ -60,7 +60,7 @@ returns-2 c =
     let at-said = at-test .before .before .before .before in
     let at-count = at-said .before in
     let x = at-count .before .before .args in
-    let count = at-count .lines in
+    let count = at-count .line-count in
     let said = at-said .run-said in
     let e = late-parts (runNumbers (x .answer)) (x .activities) (x .rows .now) (count .ensures .0) (said .ensures) in
     printed-whole e (at-put .put-lines .ensures) (at-line .put-line .ensures)
@@ -75,7 +75,7 @@ pub late-lines-spec : {M : Type 1} → statement M
 late-lines-spec =
     tie.close
     (tie.spec
-    lines-requires
+    line-count-requires
     run-said-requires
     lines-length-requires
     slice-aggregate-line-length

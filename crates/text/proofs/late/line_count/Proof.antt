@@ -1,11 +1,11 @@
--- `text::late::lines` meets its contract: all activities, or none.
+-- `text::late::line_count` meets its contract: all activities, or none.
 -- Assumes nothing.
 use native.Mathlib.Omega.{arith}
 use mathlib.Core.Path.{sym, _∙_}
 use borrow.Author.Needs.{needs}
 use Rattle.text.specs.Rows.{linesOf}
-use Rattle.text.proofs.late.lines.Statement.{statement}
-use Rattle.text.proofs.late.lines.Tie as tie
+use Rattle.text.proofs.late.line_count.Statement.{statement}
+use Rattle.text.proofs.late.line_count.Tie as tie
 
 fills-requires : tie.Need-fills-requires
 fills-requires c κs = search needs
@@ -18,5 +18,5 @@ returns-2 : tie.Need-returns-2
 unfolding linesOf
 returns-2 c = (rw (sym (c .before .fills .ensures) ∙ c .if1 .left), omega arith)
 
-pub lines-spec : {M : Type 1} → statement M
-lines-spec = tie.close (tie.spec fills-requires returns returns-2)
+pub line-count-spec : {M : Type 1} → statement M
+line-count-spec = tie.close (tie.spec fills-requires returns returns-2)
