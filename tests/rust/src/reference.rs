@@ -401,7 +401,7 @@ impl Machine {
     }
 
     /// 43
-    fn deadline(&self, model: &Model, choice: &Choice) -> Result<(), Refusal> {
+    fn all_in_time(&self, model: &Model, choice: &Choice) -> Result<(), Refusal> {
         for (a, activity) in model.activities.iter().enumerate() {
             if choice.threads[activity.thread].late(self.end[a]) {
                 return refuse(43, a, 0);
@@ -413,7 +413,7 @@ impl Machine {
     /// 42 and 43; on success the figures and the plan's length.
     fn judge(&self, model: &Model, choice: &Choice) -> Result<(Figures, u32), Refusal> {
         self.all_ended()?;
-        self.deadline(model, choice)?;
+        self.all_in_time(model, choice)?;
         let usage = self.words.iter().map(|word| word.count_ones()).sum();
         Ok((figures(model, usage, &self.end, &choice.threads), plan_length(model) as u32))
     }
