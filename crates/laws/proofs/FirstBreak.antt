@@ -7,7 +7,7 @@ use mathlib.Core.Bool.{Bool, true, false, cond}
 use mathlib.Core.List.{List, [], _∷_, _++_}
 use mathlib.Core.Logic.{_⊎_, inl, inr, _↔_, ⊎-elim, Iff·and, Iff·trans}
 use mathlib.Core.Option.{Option, some, none, Option·some-ne-none, Option·none-ne-some, Option·some-injective}
-use mathlib.Core.Path.{_≡_, refl, sym, _∙_, ap, subst}
+use mathlib.Core.Path.{_≡_, refl, sym, _∙_, ap, ap₂, subst}
 use lib.Dec.{T, eqb}
 use Rattle.schedule.specs.Bounded.{first}
 use Rattle.schedule.specs.Rule.{Rule, Refusal, break, firstBreak, Everywhere, AllHold, BrokenAt, FirstBroken}
@@ -76,6 +76,12 @@ first-some (suc n) f x = (there (first-some n f x .0), back (first-some n f x .1
         (first-none n f .1 (λ j l. h .1 .earlier j (omega arith)), subst (λ i. f i ≡ some x) e (h .1 .found)))
         (below-suc (h .0) n (h .1 .below)))
 
+-- the first depends only on what stands at the places
+pub first-ext {ℓ} : {A : Type ℓ} (n : ℕ) (f g : ℕ → Option A) → ((i : ℕ) → i < n → f i ≡ g i) → first n f ≡ first n g
+unfolding first
+first-ext zero f g e = refl
+first-ext (suc n) f g e = ap₂ orElse (first-ext n f g (λ i l. e i (omega arith))) (e n (omega arith))
+
 -- a rule's test decides what the rule says, at every place
 abbrev pub Sound : Rule → Type 0
 Sound r = (a b : ℕ) → T (r .test a b) ↔ r .Holds a b
@@ -100,6 +106,15 @@ passes false x = (Option·some-ne-none x, λ t. absurd t)
 gives {ℓ} : {A : Type ℓ} (t : Bool) (x y : A) → (cond t none (some x) ≡ some y) ↔ ((¬ T t) × (x ≡ y))
 gives true x y = (λ e. absurd (Option·none-ne-some y e), λ h. absurd (h .0 tt))
 gives false x y = (λ e. (λ t. t, Option·some-injective x y e), λ h. ap {B = Option _} some (h .1))
+
+-- two rules of one number have the same break where their tests agree at each of their places
+pub break-same : (x y : Rule) → x .number ≡ y .number → x .rows ≡ y .rows → x .columns ≡ y .columns
+    → ((a b : ℕ) → a < x .rows → b < x .columns → x .test a b ≡ y .test a b) → break x ≡ break y
+unfolding break
+break-same x y number rows columns tests =
+    first-ext (x .rows) _ _ (λ a la. first-ext (x .columns) (place x a) (place y a) (λ b lb.
+    ap₂ (λ (t : Bool) (k : ℕ). cond t none (some (record { number = k; A = a; B = b }))) (tests a b la lb) number))
+    ∙ ap₂ (λ m n. first m (λ a. first n (place y a))) rows columns
 
 -- a rule has no break exactly where it holds at each of its places
 pub break-none : (r : Rule) → Sound r → (break r ≡ none) ↔ Everywhere r

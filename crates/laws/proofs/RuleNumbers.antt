@@ -1,9 +1,20 @@
 -- What every rule of a list has, its first break has: which numbers the refusals can have.
 -- Assumes nothing.
-use Prim.Native.Nat.{ℕ}
+use Prim.Native.Nat.{ℕ, _≤_}
+use native.Mathlib.Omega.{arith}
+use mathlib.Core.Bool.{false, _||_}
 use mathlib.Core.List.{List, [], _∷_, _++_}
-use mathlib.Core.Path.{subst}
+use mathlib.Core.Logic.{⊎-elim}
+use mathlib.Core.Path.{_≡_, subst}
+use lib.Dec.{T, eqb, ltb, ltb→lt}
+use borrow.Author.Tests.{ne-eqb}
 use Rattle.schedule.specs.Rule.{Rule, Refusal, FirstBroken}
+use Rattle.schedule.specs.Model.{Model, modelForm}
+use Rattle.schedule.specs.Choice.{choiceForm}
+use Rattle.schedule.specs.Plan.{planForm}
+use Rattle.laws.proofs.FirstBreak.{_&_}
+use Rattle.laws.proofs.Opened.{form-rules}
+use Rattle.laws.proofs.Tests.{T-or}
 
 -- every rule of a list has a property
 abbrev pub AllRules : (Rule → Type 0) → List Rule → Type 0
@@ -34,3 +45,26 @@ pub first-broken-number : (P : ℕ → Type 0) (rules : List Rule) (x : Refusal)
     → AllNumbers P rules → FirstBroken rules x → P (x .number)
 first-broken-number P rules x numbers h =
     subst P (h .broken .numbered) (first-broken-rule (λ r. P (r .number)) rules x numbers h)
+
+-- the rules of the three records' form have none of the numbers 21 to 43, which are of the checks and of the run
+abbrev pub OfForm : ℕ → Type 0
+OfForm k = T (ltb k 21 || ltb 43 k)
+
+pub model-numbers : (s : List ℕ) → AllNumbers OfForm (modelForm s)
+unfolding modelForm form-rules
+model-numbers s = tt & tt & tt & tt & tt & tt & tt & tt
+
+pub choice-numbers : (m : Model) (q : List ℕ) → AllNumbers OfForm (choiceForm m q)
+unfolding choiceForm form-rules
+choice-numbers m q = tt & tt & tt & tt & tt & tt & tt
+
+pub plan-numbers : (m : Model) (r : List ℕ) → AllNumbers OfForm (planForm m r)
+unfolding planForm form-rules
+plan-numbers m r = tt & tt & tt & tt & tt & tt & tt
+
+pub of-form : (k n : ℕ) → OfForm k → 21 ≤ n → n ≤ 43 → eqb k n ≡ false
+of-form k n t least most =
+    ne-eqb k n (λ e. ⊎-elim
+    (λ (below : T (ltb k 21)). omega (arith, e, ltb→lt k 21 below))
+    (λ (above : T (ltb 43 k)). omega (arith, e, ltb→lt 43 k above))
+    (T-or (ltb k 21) (ltb 43 k) .0 t))

@@ -20,10 +20,10 @@ use Rattle.schedule.specs.Answers.{plainChecks, strictChecks, plainVerdict, str
 use Rattle.schedule.specs.Answers.{runRules, lengthNeeded, written, runChecks, answerOf, runAnswer}
 use Rattle.schedule.specs.Answers.{from-input, from-buffer, from-run, succeeded, concluded, outcome, runOutcome}
 use Rattle.schedule.specs.Report.{rowsNeeded, rowsRule, reportRules, reportAnswer}
-use Rattle.laws.proofs.FirstBreak.{AllSound, none-iff, some-iff, append-none, append-some, _&_}
+use Rattle.laws.proofs.FirstBreak.{AllSound, none-iff, some-iff, append-none, append-some}
 use Rattle.laws.proofs.Named.{rulesOf-append}
-use Rattle.laws.proofs.Opened.{form-rules}
 use Rattle.laws.proofs.RuleNumbers.{AllNumbers, rules-append, first-broken-number}
+use Rattle.laws.proofs.RuleNumbers.{OfForm, model-numbers, choice-numbers, of-form}
 use Rattle.laws.proofs.Sound.{modelForm-sound, planForm-sound, runChecks-sound}
 
 -- a call answers a pass, or a refusal, and never both
@@ -108,16 +108,17 @@ module _ (s q : List ℕ) where
   model-holds e = append-none (modelForm s) (choiceForm (model s) q) e
 
   -- none of them is numbered 42 or 43
-  input-numbers : AllNumbers OfInput (runChecks s q)
-  unfolding runChecks modelForm choiceForm form-rules
+  pub input-numbers : AllNumbers OfForm (runChecks s q)
+  unfolding runChecks
   input-numbers =
-      rules-append (λ r. OfInput (r .number)) (modelForm s) (choiceForm (model s) q)
-      ((refl, refl) & (refl, refl) & (refl, refl) & (refl, refl) & (refl, refl) & (refl, refl) & (refl, refl) & tt)
-      ((refl, refl) & (refl, refl) & (refl, refl) & (refl, refl) & (refl, refl) & (refl, refl) & tt)
+      rules-append (λ r. OfForm (r .number)) (modelForm s) (choiceForm (model s) q) (model-numbers s)
+      (choice-numbers (model s) q)
 
   pub input-number : (x : Refusal) → firstBreak (runChecks s q) ≡ some x → OfInput (x .number)
   input-number x e =
-      first-broken-number OfInput (runChecks s q) x input-numbers (some-iff (runChecks s q) x (runChecks-sound s q) .0 e)
+      let broken = some-iff (runChecks s q) x (runChecks-sound s q) .0 e in
+      let number = first-broken-number OfForm (runChecks s q) x input-numbers broken in
+      (of-form (x .number) 42 number (omega arith) (omega arith), of-form (x .number) 43 number (omega arith) (omega arith))
 
 -- how the run ends: by the first break of its input rules
 pub run-from-input : (s q : List ℕ) (room : ℕ) (x : Refusal) → firstBreak (runChecks s q) ≡ some x
