@@ -44,9 +44,9 @@ GridAnswer grid_run(const uint8_t *model, size_t model_length,
 
 /* The lateness of each activity in the run of a choice. The answer is that of grid_run with room enough, the plan's length
  * included, but 50 for fewer than 32 rows, however few activities there are; it is tried after 1 to 13 and before 42 and
- * 43. A success and 43 set row a to the deadline less the end of activity a, negative when late and 0 on the dot, or to
- * INT32_MIN where its thread has no period. Refusals 1 to 13, 42 and 50 change no row, and rows beyond the last activity
- * never change. */
+ * 43. A success and 43 set row a to the deadline of activity a, its thread's release + period, less its end, negative when
+ * late and 0 on the dot, or to INT32_MIN where its thread has no period. Refusals 1 to 13, 42 and 50 change no row, and rows
+ * beyond the last activity never change. */
 GridAnswer grid_lateness(const uint8_t *model, size_t model_length,
                          const uint8_t *choice, size_t choice_length,
                          int32_t *rows, size_t rows_length);

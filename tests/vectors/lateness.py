@@ -2,8 +2,7 @@
 the answer and the rows afterwards.
 
 The figures and refusals are literals, worked out by hand from the papers' rules, each figure as the deadline less the
-end. Every thread with a period is released at 0 here, where request U2 changes nothing; threads that are released late
-stand in late.py.
+end. Every thread with a period is released at 0 here; threads that are released late stand in late.py.
 """
 from checks import alone
 from choices import REFUSED

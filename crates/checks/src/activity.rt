@@ -34,7 +34,7 @@ pub(crate) enum ActivityRule {
     Window,
     // 22 "count within the duration range"
     Count,
-    // 23 "a thread with a period has end ≤ that period"
+    // 23 "a thread with a period" has "end ≤ release + period"
     Deadline,
     // 24 "end − start ≥ count"
     Span,

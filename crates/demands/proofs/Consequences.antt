@@ -64,9 +64,10 @@ choice-length n m = refl
 pub plan-length : (n m H : ℕ) → planLength n m H ≡ 9 + 4 * n + 4 * m + 4 * H
 plan-length n m H = refl
 
--- "a thread with a period has end ≤ that period"
+-- "a thread with a period" has "end ≤ release + period"
 pub in-time-is : (m : Model) (timing : Timing) (end : ℕ → ℕ) (a : ℕ)
-    → InTime m timing end a ≡ ((¬ (timing .period (m .thread a) ≡ 0)) → end a ≤ timing .period (m .thread a))
+    → InTime m timing end a
+    ≡ ((¬ (timing .period (m .thread a) ≡ 0)) → end a ≤ timing .release (m .thread a) + timing .period (m .thread a))
 unfolding InTime
 in-time-is m timing end a = refl
 

@@ -7,3 +7,5 @@ pub mod Fits
 pub mod Consequences
 pub mod Lateness
 pub mod WrongReports
+pub mod Deadline
+pub mod WrongDeadlines

@@ -31,11 +31,11 @@ use Rattle.laws.proofs.VerdictLaws.{
   concluded-succeeded,
   run-verdict,
 }
-use Rattle.demands.specs.ByNumber.{answerByRules, zeroing, bufferByNumber}
+use Rattle.demands.specs.ByNumber.{answerBy, answerByRules, zeroing, bufferByNumber}
 
 -- The answer is what the rules alone say.
 pub answer-by-rules : (s q : List ℕ) (room : ℕ) → runAnswer s q room ≡ answerByRules s q room
-unfolding runAnswer answerOf answerByRules
+unfolding runAnswer answerOf answerBy answerByRules
 answer-by-rules s q room = by (firstBreak (runChecks s q)) refl
   where
     past : Bool → Answer Written

@@ -8,9 +8,9 @@ use lib.IntN.{ℤ, pos, negsuc, natAbs, pos-ne-negsuc}
 use lib.ListN.{getD, drop, replicate}
 use Rattle.schedule.specs.Answers.{Answer, accepted, refused, Written}
 use Rattle.schedule.specs.Report.{dash}
-use Rattle.schedule.specs.Cases.{every}
+use Rattle.schedule.specs.Cases.{every, refuses}
 use Rattle.schedule.specs.Starred.{modelS, choiceS, horizon, wider-period, chosen-period}
-use Rattle.schedule.specs.Lateness.{lent, answers, refuses, apart, chosen}
+use Rattle.schedule.specs.Lateness.{lent, answers, apart, chosen}
 use Rattle.laws.proofs.VerdictLaws.{accepted-is-not-refused}
 use Rattle.demands.specs.Lateness.{RightReport}
 

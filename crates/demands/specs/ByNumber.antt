@@ -6,21 +6,25 @@ use mathlib.Core.List.{List, _++_}
 use mathlib.Core.Option.{some, none}
 use lib.Dec.{eqb, ltb}
 use lib.ListN.{drop, replicate}
-use Rattle.schedule.specs.Rule.{firstBreak}
+use Rattle.schedule.specs.Rule.{Rule, firstBreak}
 use Rattle.schedule.specs.Model.{Model, model}
 use Rattle.schedule.specs.Choice.{Choice, choice}
 use Rattle.schedule.specs.Plan.{planBytes}
 use Rattle.schedule.specs.Answers.{Answer, accepted, refused, answer, Written, machinePlan, runRules, lengthNeeded, written, runChecks}
 
--- the first break of the input rules; else 41, where the buffer is too short; else the verdict of 42 and 43
-unfoldable pub answerByRules : List ℕ → List ℕ → ℕ → Answer Written
-answerByRules s q room =
+-- the first break of the input rules; else 41, where the buffer is too short; else the verdict of the run's own rules
+unfoldable pub answerBy : List Rule → List ℕ → List ℕ → ℕ → Answer Written
+answerBy rules s q room =
     elim (firstBreak (runChecks s q)) [
       | some x ↦ refused x
       | none ↦
           cond (ltb room (lengthNeeded (model s))) (refused (record { number = 41; A = lengthNeeded (model s); B = 0 }))
-          (answer (firstBreak (runRules (model s) (choice q))) (written (model s) (choice q)))
+          (answer (firstBreak rules) (written (model s) (choice q)))
     ]
+
+-- which are 42 and 43
+unfoldable pub answerByRules : List ℕ → List ℕ → ℕ → Answer Written
+answerByRules s q room = answerBy (runRules (model s) (choice q)) s q room
 
 -- the refusals that set bytes to 0
 abbrev pub zeroing : ℕ → Bool

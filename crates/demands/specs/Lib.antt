@@ -2,3 +2,4 @@ pub mod Strict
 pub mod Efe
 pub mod ByNumber
 pub mod Lateness
+pub mod Deadline

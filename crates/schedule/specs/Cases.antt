@@ -37,7 +37,7 @@ patch at new s = sets s at new
 abbrev pub accepts : ℕ → ℕ → ℕ → Answer Figures
 accepts u c h = accepted (record { usage = u; capacity = c; makespan = h })
 
-abbrev pub refuses : ℕ → ℕ → ℕ → Answer Figures
+abbrev pub refuses : {F : Type 0} → ℕ → ℕ → ℕ → Answer F
 refuses number a b = refused (record { number = number; A = a; B = b })
 
 -- What is asked: both checks of a model's and a plan's bytes, or the plan's efes; the run of a model's and a choice's

@@ -84,7 +84,7 @@ rule22 m p = record {
   test = λ a _. within (m .least-duration a) (m .most-duration a) (countOf m p a);
 }
 
--- 23 a thread with a period has end ≤ that period. A activity.
+-- 23 a thread with a period has end ≤ release + period (U2 of 02). A activity.
 unfoldable pub rule23 : Model → Plan → Rule
 rule23 m p = deadlineRule 23 m (planTiming p) (p .end)
 

@@ -1,5 +1,6 @@
 -- The report of lateness on literal records: one table with one truth about it. The rows of a lent list are all different, so
--- that a row that is not left alone shows. The expected values are worked out by hand.
+-- that a row that is not left alone shows. Threads with a period are released at 0; Deadlines has those released late. The
+-- expected values are worked out by hand.
 -- Assumes nothing.
 use Prim.Native.Nat.{ℕ, _+_}
 use mathlib.Core.List.{List, [], _∷_, _++_}
@@ -7,9 +8,9 @@ use mathlib.Core.Path.{refl}
 use lib.IntN.{ℤ, pos, negsuc}
 use lib.ListN.{drop}
 use Rattle.schedule.specs.Bounded.{table}
-use Rattle.schedule.specs.Answers.{Answer, accepted, refused, Written}
+use Rattle.schedule.specs.Answers.{Answer, accepted, Written}
 use Rattle.schedule.specs.Report.{dash}
-use Rattle.schedule.specs.Cases.{every, patch, Case, Right, report, reports}
+use Rattle.schedule.specs.Cases.{every, patch, refuses, Case, Right, report, reports}
 use Rattle.schedule.specs.Starred.{modelS, choiceS, horizon, wider-period, chosen-period}
 
 -- a lent list of k rows: 100, 101, 102, ..
@@ -17,15 +18,12 @@ abbrev pub lent : ℕ → List ℤ
 lent k = table k (λ a. pos (100 + a))
 
 -- its rows from n on, which are left alone
-abbrev kept : ℕ → ℕ → List ℤ
+abbrev pub kept : ℕ → ℕ → List ℤ
 kept n k = drop n (lent k)
 
--- "accepted 5 8 6" with the length of the plan before it, and "43 2 0" for a refusal
+-- "accepted 5 8 6" with the length of the plan before it
 abbrev pub answers : ℕ → ℕ → ℕ → ℕ → Answer Written
 answers length u c h = accepted (record { length = length; figures = record { usage = u; capacity = c; makespan = h } })
-
-abbrev pub refuses : ℕ → ℕ → ℕ → Answer Written
-refuses number a b = refused (record { number = number; A = a; B = b })
 
 -- S's choice with release 3 for thread 0, which 12 refuses, and with duration 3 for activity 0, which 13 refuses
 abbrev late-release : List ℕ
@@ -56,10 +54,6 @@ chosen period1 period2 duration =
 -- thread 2 has no period
 abbrev one-period : List ℕ
 one-period = patch 30 (0 ∷ 0 ∷ 0 ∷ 0 ∷ []) apart
-
--- thread 1 is released at 1
-abbrev released-late : List ℕ → List ℕ
-released-late q = patch 11 (0 ∷ 1 ∷ []) q
 
 abbrev pub cases : List Case
 cases =
@@ -119,11 +113,6 @@ cases =
     ∷ record {
       asked = report apart (patch 13 (255 ∷ 255 ∷ []) (chosen 0 4 1)) (lent 32);
       expected = reports (answers 45 2 4 2) (pos 3 ∷ pos 65533 ∷ kept 2 32);
-    }
-    -- the release plays no part in the deadline, which U2 of 02 changes: ends 1 and 2, period 3 from tick 0
-    ∷ record {
-      asked = report apart (released-late (chosen 3 4 1)) (lent 32);
-      expected = reports (answers 45 2 4 2) (pos 3 ∷ pos 1 ∷ kept 2 32);
     }
     ∷ []
 

@@ -18,4 +18,5 @@ pub mod Cases
 pub mod Starred
 pub mod Mistakes
 pub mod Lateness
+pub mod Deadlines
 pub mod Listing

@@ -1,6 +1,6 @@
 -- The release and the period that are chosen for each thread, and the one deadline that follows from them.
 -- Assumes nothing.
-use Prim.Native.Nat.{ℕ, _≤_}
+use Prim.Native.Nat.{ℕ, _+_, _≤_}
 use mathlib.Core.Bool.{Bool, not}
 use mathlib.Core.Path.{_≡_}
 use lib.Dec.{eqb, leb}
@@ -13,9 +13,9 @@ pub record Timing : Type 0 where
   pub release : ℕ → ℕ
   pub period : ℕ → ℕ
 
--- the deadline of a thread that has a period, from its release and its period: "that period", whatever the release
+-- the deadline of a thread that has a period, from its release and its period: "the time allowed after release" (U2 of 02)
 abbrev pub deadline : ℕ → ℕ → ℕ
-deadline release period = period
+deadline release period = release + period
 
 -- an end that is no later than the deadline; a period of 0 is none, and there is no deadline then
 abbrev pub OnTime : ℕ → ℕ → ℕ → Type 0
@@ -24,7 +24,7 @@ OnTime release period end = ¬ (period ≡ 0) → end ≤ deadline release perio
 abbrev pub onTime : ℕ → ℕ → ℕ → Bool
 onTime release period end = not (eqb period 0) ⇒ leb end (deadline release period)
 
--- "a thread with a period has end ≤ that period", of activity a
+-- "a thread with a period" has "end ≤ release + period", of activity a
 unfoldable pub InTime : Model → Timing → (ℕ → ℕ) → ℕ → Type 0
 InTime m timing end a = OnTime (timing .release (m .thread a)) (timing .period (m .thread a)) (end a)
 

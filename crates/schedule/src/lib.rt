@@ -44,7 +44,7 @@ pub enum RuleRefusal {
     Window,
     // 22 "count within the duration range"
     Count,
-    // 23 "a thread with a period has end ≤ that period"
+    // 23 "a thread with a period" has "end ≤ release + period" (02)
     Deadline,
     // 24 "end − start ≥ count"
     Span,

@@ -15,14 +15,15 @@ pub fn passed(end: u32, delay: u32, t: u32) -> bool
     if end <= t { delay <= t - end } else { false }
 }
 
-// The deadline of a thread that has a period: "that period", whatever the release. Wide enough for any sum of the two.
-fn deadline(_release: u32, period: u32) -> u64
-    ensures { λ r. ⌜ r ≡ deadline «_release» period ⌝ }
+// The deadline of a thread that has a period: "release + period", in 64 bits, where the sum of any two numbers of 32 bits is
+// whole.
+fn deadline(release: u32, period: u32) -> u64
+    ensures { λ r. ⌜ r ≡ deadline release period ⌝ }
 {
-    period as u64
+    release as u64 + period as u64
 }
 
-// "a thread with a period has end ≤ that period": period 0 is none.
+// "a thread with a period" has "end ≤ release + period": period 0 is none.
 pub fn on_time(release: u32, period: u32, end: u32) -> bool
     ensures { λ r. ⌜ r ≡ onTime release period end ⌝ }
 {

@@ -232,7 +232,7 @@ fn page(random: &mut Random, habits: fn(&mut Random, &Model) -> Habits) -> Page 
     Page { model, choice, plan }
 }
 
-/// Gives half of the threads a period that their ends keep, and one in `late` of those a shorter one.
+/// Gives half of the threads a period that their ends keep after the release, and one in `late` of those a shorter one.
 fn set_periods(random: &mut Random, model: &mut Model, choice: &mut Choice, ends: &[usize], late: usize) {
     for j in 0..model.threads.len() {
         if random.one_in(2) {
@@ -240,11 +240,12 @@ fn set_periods(random: &mut Random, model: &mut Model, choice: &mut Choice, ends
         }
         let owned = |(a, _): &(usize, &usize)| usize::from(model.activities[*a].thread) == j;
         let greatest = ends.iter().enumerate().filter(owned).map(|(_, &end)| end).max().unwrap_or(0);
-        let period = if late > 0 && random.one_in(late) && greatest > 1 {
-            let shorter = [greatest - 1, random.within(1, greatest - 1)];
+        let taken = greatest.saturating_sub(choice.threads[j].0.into());
+        let period = if late > 0 && random.one_in(late) && taken > 1 {
+            let shorter = [taken - 1, random.within(1, taken - 1)];
             random.pick(&shorter)
         } else {
-            greatest + random.pick(&[0, 0, 1, 7])
+            taken + random.pick(&[0, 0, 0, 1, 1, 7, 65535])
         };
         let period = period.clamp(1, 65535);
         let least = random.pick(&[period, 1, period / 2 + 1]).min(period);

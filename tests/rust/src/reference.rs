@@ -132,9 +132,10 @@ struct Chosen {
 }
 
 impl Chosen {
-    /// The tick that no end may pass, for 23, 43 and the report; none for a thread without a period.
+    /// The tick that no end may pass, for 23, 43 and the report: "release + period" (02); none for a thread without a
+    /// period.
     fn deadline(&self) -> Option<u32> {
-        (self.period != 0).then_some(self.period)
+        (self.period != 0).then_some(self.release + self.period)
     }
 
     /// Whether this end of an activity breaks rule 23.
