@@ -44,11 +44,11 @@ def model_s():
     case("release 3 for thread 0", S, s_plan(chosen=[(3, 0), (0, 8)]), "refused 12 0 0")
     case("H 6: an end equals H", s_model(horizon=6), s_plan(S_GRID[:6]), "accepted 5 6 6", misread="end < H in 21")
     case(
-        "thread 1's period range 5..8, chosen 6: an end equals the period",
+        "thread 1's period range 5..8, chosen 6: an end equals the deadline",
         S_LATE,
         s_plan(chosen=[(1, 0), (0, 6)]),
         "accepted 5 8 6",
-        misread="end < period in 23",
+        misread="end < release + period in 23",
     )
     own = replaced(S_ACTIVITIES, 1, activity(1, (2, 3), delay=1, temporal=[1]))
     case(

@@ -67,7 +67,7 @@ def late_or_owed():
     kept("H 5", S_SHORT, S_CHOICE, 32, "42 2 0", "the rows of what has ended written for 42")
     # words 1, 1, 2: activity 0 ends at 2, activity 1 owes a tick
     both = model(1, 3, [thread(9, period=(1, 1)), thread(0)], [activity(0, (2, 2)), activity(1, (2, 2))])
-    kept("activity 0 ends past its period, activity 1 is owed: 42 first", both, choice([(0, 1), FREE], [2, 2]), 32,
+    kept("activity 0 ends past its deadline, activity 1 is owed: 42 first", both, choice([(0, 1), FREE], [2, 2]), 32,
          "42 1 0", "43 before 42, or a negative row written for 42")
 
 

@@ -228,7 +228,7 @@ def counts_and_deadlines():
     )
     # ends 2 and 3, both past 1; activity 0 is thread 1's, activity 1 is thread 0's
     case(
-        "activities 0 and 1 past their periods, of threads 1 and 0",
+        "activities 0 and 1 past their deadlines, of threads 1 and 0",
         model(1, 4, [thread(0, period=(1, 1))] * 2, [activity(1), activity(0)]),
         plan([(0, 1)] * 2, [0, 1, 2, 0]),
         "refused 23 0 0",

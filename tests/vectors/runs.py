@@ -68,7 +68,7 @@ def unfinished():
     cleared("period 5", S_LATE, late_choice, buffer(64), 61, "43 2 0")
     untouched("period 5 with a byte too few", S_LATE, late_choice, buffer(60), "41 61 0")
     both = model(1, 3, [thread(9, period=(1, 1)), thread(0)], [activity(0, (2, 2)), activity(1, (2, 2))])
-    cleared("activity 0 ends past its period, activity 1 is owed: 42 first", both, choice([(0, 1), FREE], [2, 2]),
+    cleared("activity 0 ends past its deadline, activity 1 is owed: 42 first", both, choice([(0, 1), FREE], [2, 2]),
             buffer(40), 37, "42 1 0")
 
 

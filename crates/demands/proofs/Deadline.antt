@@ -1,5 +1,5 @@
--- The checks, the run and the report follow from the deadline alone: with "release + period" in its place they answer as they
--- do, and where threads are released at 0 as with the former deadline.
+-- With "release + period" in the place of rule 23's deadline the checks, the run and the report answer as they do, and where
+-- threads are released at 0 as with the former deadline.
 -- Assumes nothing.
 use Prim.Native.Nat.{ℕ, _+_, _<_}
 use native.Mathlib.Decide.{ℕ-discrete}

@@ -1,5 +1,5 @@
--- Deadlines that are nearly right, each with literal records on which the run, the report and the checks would answer otherwise
--- with it than they do. One table with one truth about it; the values are worked out by hand.
+-- Deadlines that are nearly right, each with literal records on which the run, the report's rows and both checks would be
+-- others with it than they are. One table with one truth about it; the values are worked out by hand.
 -- Assumes nothing.
 use Prim.Native.Nat.{ℕ, _+_, _-_, _%_}
 use mathlib.Core.List.{List, [], _∷_, map}
@@ -34,12 +34,12 @@ leastRelease m timing a = m .least-release (m .thread a) + timing .period (m .th
 abbrev pub mostRelease : Deadline
 mostRelease m timing a = m .most-release (m .thread a) + timing .period (m .thread a)
 
--- the release of another thread: by the activity's number, or the first of all
+-- the release of another thread: by the activity's number, or the earliest of all
 abbrev pub byActivity : Deadline
 byActivity m timing a = timing .release a + timing .period (m .thread a)
 
-abbrev pub firstRelease : Deadline
-firstRelease m timing a = least (m .threads) (timing .release) + timing .period (m .thread a)
+abbrev pub earliestRelease : Deadline
+earliestRelease m timing a = least (m .threads) (timing .release) + timing .period (m .thread a)
 
 -- the sum cut to 16 bits
 abbrev pub cut : Deadline
@@ -70,6 +70,10 @@ pub record Case : Type 0 where
 abbrev says : Answer Written → ℤ → ℤ → Answer Figures → Said
 says run first second check = record { run = run; rows = first ∷ second ∷ kept 2 32; plain = check; strict = check }
 
+-- what is right of durations 2 and 2: ends 7 and 4, of deadlines 9 and 5
+abbrev in-time : Said
+in-time = says (answers 73 4 24 5) (pos 2) (pos 1) (accepts 4 24 5)
+
 -- the room that the plan needs
 abbrev room : ℕ
 room = 73
@@ -96,7 +100,7 @@ cases =
       deadline = former;
       choice = lasting 2 2;
       plan = two;
-      right = says (answers 73 4 24 5) (pos 2) (pos 1) (accepts 4 24 5);
+      right = in-time;
       instead = says (refuses 43 0 0) (negsuc 2) (negsuc 0) (refuses 23 0 0);
     }
     ∷ record {
@@ -110,7 +114,7 @@ cases =
       deadline = leastRelease;
       choice = lasting 2 2;
       plan = two;
-      right = says (answers 73 4 24 5) (pos 2) (pos 1) (accepts 4 24 5);
+      right = in-time;
       instead = says (refuses 43 0 0) (negsuc 1) (pos 0) (refuses 23 0 0);
     }
     ∷ record {
@@ -124,14 +128,14 @@ cases =
       deadline = byActivity;
       choice = lasting 2 2;
       plan = two;
-      right = says (answers 73 4 24 5) (pos 2) (pos 1) (accepts 4 24 5);
+      right = in-time;
       instead = says (refuses 43 0 0) (negsuc 0) (pos 4) (refuses 23 0 0);
     }
     ∷ record {
-      deadline = firstRelease;
+      deadline = earliestRelease;
       choice = lasting 2 2;
       plan = two;
-      right = says (answers 73 4 24 5) (pos 2) (pos 1) (accepts 4 24 5);
+      right = in-time;
       instead = says (refuses 43 0 0) (negsuc 0) (pos 1) (refuses 23 0 0);
     }
     ∷ record {

@@ -12,7 +12,8 @@ use Rattle.schedule.specs.Choice.{Choice, choice}
 use Rattle.schedule.specs.Plan.{planBytes}
 use Rattle.schedule.specs.Answers.{Answer, accepted, refused, answer, Written, machinePlan, runRules, lengthNeeded, written, runChecks}
 
--- the first break of the input rules; else 41, where the buffer is too short; else the verdict of the run's own rules
+-- the first break of the input rules; else 41, where the buffer is too short; else the verdict of some rules, which stand in
+-- the place of 42 and 43
 unfoldable pub answerBy : List Rule → List ℕ → List ℕ → ℕ → Answer Written
 answerBy rules s q room =
     elim (firstBreak (runChecks s q)) [
@@ -22,7 +23,7 @@ answerBy rules s q room =
           (answer (firstBreak rules) (written (model s) (choice q)))
     ]
 
--- which are 42 and 43
+-- with the run's own rules, 42 and 43
 unfoldable pub answerByRules : List ℕ → List ℕ → ℕ → Answer Written
 answerByRules s q room = answerBy (runRules (model s) (choice q)) s q room
 

@@ -1,5 +1,6 @@
--- Any deadline in the place of rule 23's: what the checks, the run and the report answer with it. So it can be said that they
--- depend on the deadline alone, that "Threads released at 0 see no change" (U2 of 02), and what a wrong deadline would do.
+-- Any deadline in the place of rule 23's: what the checks, the run and the report answer with it. So it can be said that 23,
+-- 43 and the report's rows hang on one deadline, that "Threads released at 0 see no change" (U2 of 02), and what a wrong
+-- deadline would answer.
 -- Assumes nothing.
 use Prim.Native.Nat.{ℕ, _+_, _≤_, _<_}
 use mathlib.Core.Bool.{Bool, true, false, not, cond}
@@ -32,7 +33,8 @@ fromRelease m timing a = timing .release (m .thread a) + timing .period (m .thre
 abbrev pub former : Deadline
 former m timing a = timing .period (m .thread a)
 
--- a list of rules, with one in the place of that of its number
+-- A list of rules, with one in the place of that of its number. That 23 and 43 stand in the lists below is in demand 2; the
+-- table of wrong deadlines shows that a rule put in their place bites.
 abbrev pub replaced : Rule → List Rule → List Rule
 replaced rule [] = []
 replaced rule (x ∷ xs) = cond (eqb (x .number) (rule .number)) rule x ∷ replaced rule xs
@@ -109,7 +111,7 @@ Always m timing = Unit {0}
 abbrev pub ReleasedAtZero : Model → Timing → Type 0
 ReleasedAtZero m timing = (j : ℕ) → j < m .threads → ¬ (timing .period j ≡ 0) → timing .release j ≡ 0
 
--- Rule 23, 43 and the report follow from this deadline, and from nothing else.
+-- Rule 23, 43 and the report's rows take this deadline, and no other.
 abbrev pub FromRelease : Type 0
 FromRelease = AnswersAs fromRelease Always
 

@@ -1,5 +1,5 @@
 -- The plan that the machine makes, where nothing is owed at its end, keeps the strict rules but for 22 and 23, which the
--- selected durations and the periods decide.
+-- selected durations and the deadlines decide.
 -- Assumes nothing.
 use Prim.Native.Nat.{ℕ, zero, suc, _+_, _-_, _≤_, _<_}
 use native.Mathlib.Decide.{decLt}

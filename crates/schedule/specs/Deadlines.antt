@@ -1,6 +1,6 @@
--- "Deadlines counted from the release" (U2 of 02), on literal records whose threads are released late: the run's answer with
--- the report's rows, and both checks of a plan. One table with one truth about it; in S no thread with a period is released
--- late, so that its cases say nothing of this. The expected values are worked out by hand.
+-- "Deadlines counted from the release" (U2 of 02), on literal records whose threads are released late: the report, which
+-- answers as the run does, with its rows, and both checks of a plan. One table with one truth about it; in S no thread with a
+-- period is released late, so that its cases say nothing of this. The expected values are worked out by hand.
 -- Assumes nothing.
 use Prim.Native.Nat.{ℕ}
 use mathlib.Core.List.{List, [], _∷_, _++_}
@@ -73,7 +73,7 @@ abbrev pub long-period : List ℕ → List ℕ
 long-period r = patch 15 (255 ∷ 255 ∷ []) r
 
 -- a plan with release 65535 and period 1 for thread 0
-abbrev pub last-release : List ℕ → List ℕ
+abbrev last-release : List ℕ → List ℕ
 last-release r = patch 9 (255 ∷ 255 ∷ 0 ∷ 1 ∷ []) r
 
 abbrev pub cases : List Case

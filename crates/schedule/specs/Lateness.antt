@@ -33,13 +33,13 @@ abbrev long-duration : List ℕ
 long-duration = patch 15 (0 ∷ 3 ∷ []) choiceS
 
 -- c 1, n 3, m 2, H 4, no predecessors. Thread 0 owns no activity: period 9, release 0, priority 9.
--- Thread 1: period 1..65535, release 0..1, priority 1. Thread 2: period 1..4, release 0, priority 2.
+-- Thread 1: period 1..65535, release 0, priority 1. Thread 2: period 1..4, release 0, priority 2.
 -- Activity 0: thread 2, duration 1..4. Activity 1: thread 1, duration 1.
 abbrev pub apart : List ℕ
 apart =
     (0 ∷ 0 ∷ 0 ∷ 70 ∷ 1 ∷ 1 ∷ 3 ∷ 2 ∷ 0 ∷ 4 ∷ [])
     ++ (0 ∷ 9 ∷ 0 ∷ 9 ∷ 0 ∷ 0 ∷ 0 ∷ 0 ∷ 0 ∷ 9 ∷ [])
-    ++ (0 ∷ 1 ∷ 255 ∷ 255 ∷ 0 ∷ 0 ∷ 0 ∷ 1 ∷ 0 ∷ 1 ∷ [])
+    ++ (0 ∷ 1 ∷ 255 ∷ 255 ∷ 0 ∷ 0 ∷ 0 ∷ 0 ∷ 0 ∷ 1 ∷ [])
     ++ (0 ∷ 1 ∷ 0 ∷ 4 ∷ 0 ∷ 0 ∷ 0 ∷ 0 ∷ 0 ∷ 2 ∷ [])
     ++ (2 ∷ 0 ∷ 1 ∷ 0 ∷ 4 ∷ 0 ∷ 0 ∷ 0 ∷ 0 ∷ 0 ∷ 0 ∷ 0 ∷ 0 ∷ 0 ∷ 0 ∷ [])
     ++ (1 ∷ 0 ∷ 1 ∷ 0 ∷ 1 ∷ 0 ∷ 0 ∷ 0 ∷ 0 ∷ 0 ∷ 0 ∷ 0 ∷ 0 ∷ 0 ∷ 0 ∷ [])

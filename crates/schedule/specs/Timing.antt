@@ -13,7 +13,7 @@ pub record Timing : Type 0 where
   pub release : ℕ → ℕ
   pub period : ℕ → ℕ
 
--- the deadline of a thread that has a period, from its release and its period: "the time allowed after release" (U2 of 02)
+-- the deadline of a thread that has a period: its release and its period, "the time allowed after release" (U2 of 02)
 abbrev pub deadline : ℕ → ℕ → ℕ
 deadline release period = release + period
 

@@ -1,4 +1,4 @@
--- `checks::activity::deadline_holds` meets its contract: the thread's period and the activity's end.
+-- `checks::activity::deadline_holds` meets its contract: the thread's release and period, and the activity's end.
 -- Assumes nothing.
 use mathlib.Core.Path.{ap, ap₂, _∙_}
 use Rattle.schedule.specs.Plan.{plan}
