@@ -1,8 +1,9 @@
 // A tick of the machine on whole words, from tables by activity.
+use numbers::less;
 use ticks::passed;
 ghost use mathlib.Core.Path.{_≡_};
 ghost use mathlib.Core.Bool.{cond};
-ghost use Prim.Native.Nat.{_+_, _-_, _≤_, _<_};
+ghost use Prim.Native.Nat.{_+_, _≤_, _<_};
 ghost use lib.Dec.{eqb};
 ghost use lib.ListN.{length};
 ghost use Rattle.schedule.specs.Bounded.{wordOf};
@@ -138,13 +139,6 @@ pub(crate) fn tick(
 
 // ---- after a tick
 
-// "Each owes one less"
-fn lowered(owes: u32) -> u32
-    ensures { λ r. ⌜ r ≡ owes - 1 ⌝ }
-{
-    if 0 < owes { owes - 1 } else { 0 }
-}
-
 // "and one that now owes nothing ends at t + 1"
 fn end_after(owes: u32, end: u32, t: u32) -> u32
     requires { ⌜ t < 65536 ⌝ }
@@ -164,7 +158,7 @@ pub(crate) fn step(word: u32, t: u32, owed: &mut [u32; 32], ends: &mut [u32; 32]
         let at = a as usize;
         let owes = owed[at];
         let end = ends[at];
-        owed[at] = lowered(owes);
+        owed[at] = less(owes, 1);
         ends[at] = end_after(owes, end, t);
         rest = bits::without(rest, a);
     }

@@ -1,4 +1,5 @@
-// The paper's numbers of the refusals, which answers fill the rows of the report, and a little arithmetic of figures and ticks.
+// The paper's numbers of the refusals, which answers fill the rows of the report, a little arithmetic of figures and ticks,
+// and a printed digit.
 use schedule::FormRefusal;
 use schedule::Numbered;
 use schedule::Refusal;
@@ -6,9 +7,10 @@ use schedule::RuleRefusal;
 use schedule::RunRefusal;
 use schedule::RunVerdict;
 ghost use mathlib.Core.Path.{_≡_};
-ghost use Prim.Native.Nat.{_+_, _-_, max, min};
+ghost use Prim.Native.Nat.{_+_, _-_, _%_, max, min};
 ghost use lib.IntN.{natAbs};
-ghost use Rattle.schedule.specs.Report.{fills};
+ghost use Rattle.schedule.specs.Report.{fills, isDash};
+ghost use Rattle.schedule.specs.Lines.{hexDigit};
 ghost use Rattle.schedule.specs.Numbers.{formNumber, ruleNumber, runNumber, refusalNumbers, numbersOf, runNumbers};
 
 // 1 to 14.
@@ -139,4 +141,19 @@ pub fn size(x: i32) -> u32
     } else {
         wide as u32
     }
+}
+
+// "An activity whose thread has no period gets −2147483648, printed as a dash".
+pub fn is_dash(figure: i32) -> bool
+    ensures { λ r. ⌜ r ≡ isDash figure ⌝ }
+{
+    figure == -2147483648
+}
+
+// A digit, 0 to 9 or a to f.
+pub fn hex_digit(d: u8) -> u8
+    ensures { λ r. ⌜ r ≡ hexDigit (d % 16) ⌝ }
+{
+    let x = d % 16;
+    if x < 10 { 48 + x } else { 87 + x }
 }

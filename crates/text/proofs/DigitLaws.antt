@@ -8,7 +8,7 @@ use native.Mathlib.Omega.{arith}
 use mathlib.Core.List.{List, [], _∷_, _++_}
 use mathlib.Core.Path.{_≡_, refl, sym, ap, _∙_}
 use lib.ListN.{length, length-append}
-use borrow.Author.Tests.{lt-ltb, le-ltb}
+use borrow.Author.Tests.{lt-ltb}
 use Rattle.schedule.specs.Lines.{decimal, hex, hexDigit}
 use Rattle.laws.proofs.LinesLaws.{decimal-small, decimal-large}
 use Rattle.laws.proofs.LineLengths.{length-small, length-large}
@@ -23,13 +23,9 @@ length-inBase base (suc k) n = simp length-append (omega (arith, length-inBase b
 
 -- ---- which
 
-pub digit-small : (d : ℕ) → d < 10 → hexDigit d ≡ 48 + d
+digit-small : (d : ℕ) → d < 10 → hexDigit d ≡ 48 + d
 unfolding hexDigit
 digit-small d h = simp (lt-ltb d 10 h)
-
-pub digit-large : (d : ℕ) → 10 ≤ d → hexDigit d ≡ 87 + d
-unfolding hexDigit
-digit-large d h = simp (le-ltb d 10 h)
 
 pub hex-inBase : (k w : ℕ) → inBase 16 k w ≡ hex k w
 unfolding inBase hex

@@ -34,7 +34,7 @@ fn row_of(figure: i32) -> Row
     ensures { λ r. ⌜ r ≡ rowOf figure ⌝ }
 {
     Row {
-        dash: figure == -2147483648,
+        dash: numbers::is_dash(figure),
         negative: figure < 0,
         size: numbers::size(figure),
     }

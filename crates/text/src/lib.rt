@@ -1,16 +1,17 @@
 // The lines that gridcheck, gridrun and gridlate print, made as bytes in a lent buffer: whole where they fit, else nothing.
 // Their length is found first; then every part is written behind the one before it.
+use numbers::hex_digit;
 use numbers::refusal_numbers;
 use schedule::Refusal;
 use schedule::RunVerdict;
 use schedule::Verdict;
 ghost use mathlib.Core.Path.{_≡_};
-ghost use Prim.Native.Nat.{_+_, _*_, _%_, _≤_, _<_};
+ghost use Prim.Native.Nat.{_+_, _*_, _≤_, _<_};
 ghost use lib.ListN.{length};
 ghost use Rattle.schedule.specs.Bounded.{chain, total};
 ghost use Rattle.schedule.specs.Plan;
 ghost use Rattle.schedule.specs.Numbers.{refusalNumbers, verdictNumbers, runNumbers};
-ghost use Rattle.schedule.specs.Lines.{decimal, hexDigit, three, checkLines, tickLine, runLines, lateLines};
+ghost use Rattle.schedule.specs.Lines.{decimal, three, checkLines, tickLine, runLines, lateLines};
 ghost use Rattle.text.specs.Printed.{leaves, printed};
 ghost use Rattle.text.specs.Said.{refusalSaid, verdictSaid, runSaid, verdictWord, line};
 ghost use Rattle.text.specs.Appended.{Appended, inBase, number, ticksOf, wordOf, tickText, tickLength};
@@ -154,14 +155,6 @@ fn put(out: &mut [u8], at: usize, s: &[u8]) -> usize
         i += 1;
     }
     at + i
-}
-
-// A digit, 0 to 9 or a to f.
-fn hex_digit(d: u8) -> u8
-    ensures { λ r. ⌜ r ≡ hexDigit (d % 16) ⌝ }
-{
-    let x = d % 16;
-    if x < 10 { 48 + x } else { 87 + x }
 }
 
 // The last k digits of a number, from the last back to the first.

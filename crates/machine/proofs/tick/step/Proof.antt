@@ -41,8 +41,8 @@ element-copy-out-end c =
     let l = c .before .before .before .loop in
     omega (arith, l .inv .sized .1, lowest-lt (l .rest) _ (l .inv .fits) (c .before .before .loop-test .taken) (c .before .lowest .ensures))
 
-lowered-requires : tie.Need-lowered-requires Inv-loop μ-loop
-lowered-requires c κs = search needs
+less-requires : tie.Need-less-requires Inv-loop μ-loop
+less-requires c κs = search needs
 
 mul-owed : tie.Need-mul-owed Inv-loop μ-loop
 mul-owed c =
@@ -87,7 +87,7 @@ loop-again c =
     let l = c5 .before .before .loop in
     rw (c .without .ensures)
     (stepping-next _ _ (l .rest) _ _ _ _ _ (l .owed) (l .ends) (l .inv) (c5 .before .loop-test .taken) (c5 .lowest .ensures)
-    (rw (c .without .ensures) at (c .without .ok)) (c .before .before .lowered .ensures) (c .before .end-after .ensures))
+    (rw (c .without .ensures) at (c .without .ok)) (c .before .before .less .ensures) (c .before .end-after .ensures))
 
 returns : tie.Need-returns Inv-loop μ-loop
 returns c = stepping-end _ _ _ _ _ _ _ (c .before .loop .inv) (c .loop-test .left)
@@ -105,7 +105,7 @@ step-spec =
     element-copy-out-owes
     mul-end
     element-copy-out-end
-    lowered-requires
+    less-requires
     mul-owed
     element-write-owed
     end-after-requires
