@@ -1,35 +1,43 @@
 -- What the code of rules 21 to 27 answers at an activity is the mask of the rule's broken places there.
 -- Assumes nothing.
-use Prim.Native.Nat.{ℕ, _+_, _-_, _≤_}
+use Prim.Native.Nat.{ℕ, _+_, _-_, _≤_, _<_}
 use native.Mathlib.Nat.{add-zero}
 use native.Mathlib.Omega.{arith}
-use mathlib.Core.Bool.{Bool, true, _&&_, not, cond, Bool·not-not}
+use mathlib.Core.Bool.{Bool, true, _&&_, not, cond}
 use mathlib.Core.List.{List}
-use mathlib.Core.Path.{_≡_, refl, sym, ap, ap₂, _∙_}
-use lib.Dec.{leb, ltb}
+use mathlib.Core.Path.{_≡_, refl, sym, subst, ap, ap₂, _∙_}
+use lib.Dec.{T, leb, ltb, ltb→lt}
 use lib.ListN.{getD}
 use Rattle.schedule.specs.Bounded.{bit, wordOf, _⇒_}
 use Rattle.schedule.specs.Rule.{Rule}
-use Rattle.schedule.specs.Model.{Model, within, temporally, byData}
-use Rattle.schedule.specs.Plan.{Plan, active}
+use Rattle.schedule.specs.Model.{Model, model, within, temporally, byData}
+use Rattle.schedule.specs.Plan.{Plan, plan, active}
 use Rattle.schedule.specs.Numbers.{ruleNumber}
 use Rattle.schedule.specs.Checks.{countOf, efe, window, rule22, rule24, rule25, rule26, rule27}
 use Rattle.laws.proofs.Words.{wordOf-ext}
 use Rattle.laws.proofs.Opened.{check-rules}
 use Rattle.laws.proofs.Named.{rule-number}
+use Rattle.laws.proofs.Tests.{T-and}
+use Rattle.records.specs.declared.plan.Span.{Span}
+use Rattle.records.specs.declared.model.Sizes.{Sizes}
+use Rattle.records.specs.Rows.{spanOf, sizesOf}
 use Rattle.tables.specs.Columns.{TableOf}
 use Rattle.checks.specs.declared.activity.ActivityRule.{ActivityRule}
 use Rattle.checks.specs.Tables.{brokenMask, finishOf}
 use Rattle.checks.proofs.MaskRow.{one-column}
 use Rattle.checks.specs.Rules.{activityRule, activityName, earlyFrom, noneOutside}
 
--- 21, where only "none outside" is left to try
-pub window-outside : (m : Model) (p : Plan) (a : ℕ) (stray : Bool) → ltb (p .start a) (p .end a) ≡ true
-    → leb (p .end a) (m .horizon) ≡ true → active p (p .start a) a ≡ true → active p (p .end a - 1) a ≡ true
-    → stray ≡ not (noneOutside m p a) → not stray ≡ window m p a
-unfolding window noneOutside
-window-outside m p a stray ordered inside first last e =
-    ap not e ∙ Bool·not-not _ ∙ sym (ap₂ (λ (x y : Bool). x && (y && noneOutside m p a)) (ap₂ _&&_ ordered inside) (ap₂ _&&_ first last))
+-- 21 by its parts, of a row and of sizes as they are read
+pub window-row : (s r : List ℕ) (a : ℕ) (row : Span) (sizes : Sizes) → row ≡ spanOf (plan r) a → sizes ≡ sizesOf (model s)
+    → window (model s) (plan r) a
+    ≡ ((ltb (row .start) (row .end) && leb (row .end) (sizes .horizon))
+    && ((active (plan r) (row .start) a && active (plan r) (row .end - 1) a) && noneOutside (model s) (plan r) a))
+unfolding window noneOutside spanOf sizesOf
+window-row s r a row sizes e f = rw (e, f)
+
+-- a window that spans something has an end after a tick
+pub span-end : {spans : Bool} (start end horizon : ℕ) → spans ≡ (ltb start end && leb end horizon) → spans ≡ true → start < end
+span-end start end horizon e t = ltb→lt start end (T-and (ltb start end) (leb end horizon) .0 (subst T (sym t ∙ e) tt) .0)
 
 -- 25 and 26: the predecessors at which they are broken, from the tables
 pub temporal-mask : (m : Model) (p : Plan) (ends delays : List ℕ) (a preceding start n : ℕ) → preceding ≡ m .temporal-mask a

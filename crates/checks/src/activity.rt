@@ -13,6 +13,7 @@ use records::model::Activity;
 use schedule::RuleRefusal;
 use ticks::on_time;
 use ticks::passed;
+use ticks::spans;
 ghost use mathlib.Core.Path.{_≡_};
 ghost use mathlib.Core.Bool.{not, cond};
 ghost use Prim.Native.Nat.{_+_, _≤_, _<_};
@@ -56,11 +57,7 @@ fn window_holds(s: &[u8], r: &[u8], a: Activity, outside: u32) -> bool
     let start = row.start;
     let end = row.end;
     let sizes = records::model::counts(s);
-    let horizon = sizes.horizon;
-    if end <= start {
-        return false;
-    }
-    if horizon < end {
+    if !spans(start as u32, end as u32, sizes.horizon as u32) {
         return false;
     }
     if !bits::has(records::plan::word(r, start), number as u32) {

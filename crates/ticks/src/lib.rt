@@ -15,6 +15,13 @@ pub fn passed(end: u32, delay: u32, t: u32) -> bool
     if end <= t { delay <= t - end } else { false }
 }
 
+// "start < end ≤ H"
+pub fn spans(start: u32, end: u32, horizon: u32) -> bool
+    ensures { λ r. ⌜ r ≡ (ltb start end && leb end horizon) ⌝ }
+{
+    if start < end { end <= horizon } else { false }
+}
+
 // The deadline of a thread that has a period: "release + period", in 64 bits, where the sum of any two numbers of 32 bits is
 // whole.
 fn deadline(release: u32, period: u32) -> u64
