@@ -1,4 +1,6 @@
 // After the last tick: what is still owed, and the deadlines.
+use crate::tick::RELEASES;
+use crate::tick::Tables;
 use records::Pass;
 use schedule::Place;
 use schedule::Refusal;
@@ -18,6 +20,7 @@ ghost use Rattle.schedule.specs.Answers.{runRules};
 ghost use Rattle.schedule.specs.Numbers.{refusalNumbers, runNumber};
 ghost use Rattle.records.specs.Reads.{passNumbers, refusalIn};
 ghost use Rattle.machine.specs.Ending.{Stopped, inTimeFrom};
+ghost use Rattle.machine.specs.Masks.{Tabled};
 
 // "42 something owed after tick H − 1; A the lowest such activity": that activity of the first n, n where none owes.
 fn first_owing(n: usize, owed: &[u32; 32]) -> usize
@@ -58,8 +61,9 @@ fn refusal(why: RunRefusal, a: u32) -> Refusal
 }
 
 // 42, then 43, of what the machine leaves.
-pub(crate) fn judge(s: &[u8], q: &[u8], owed: &[u32; 32], ends: &[u32; 32]) -> Pass
-    requires { ⌜ Stopped (model (now s)) (choice (now q)) (now owed) (now ends) ⌝ }
+pub(crate) fn judge(s: &[u8], q: &[u8], tables: &Tables, owed: &[u32; 32], ends: &[u32; 32]) -> Pass
+    requires { ⌜ Tabled (model (now s)) (choice (now q) .release) (now tables)
+        × Stopped (model (now s)) (choice (now q)) (now owed) (now ends) ⌝ }
     ensures { λ r. ⌜ passNumbers r ≡ firstBreak (runRules (model (now (s .entry))) (choice (now (q .entry)))) ⌝ }
 {
     let sizes = records::model::counts(s);
@@ -68,9 +72,8 @@ pub(crate) fn judge(s: &[u8], q: &[u8], owed: &[u32; 32], ends: &[u32; 32]) -> P
     if owing < n {
         return Pass::Refused(refusal(RunRefusal::Owed, owing as u32));
     }
-    let releases = tables::columns::table(Column::ChosenRelease, s, q);
     let periods = tables::columns::table(Column::ChosenPeriod, s, q);
-    let late = first_late(n, &releases, &periods, ends);
+    let late = first_late(n, &tables[RELEASES], &periods, ends);
     if late < n {
         return Pass::Refused(refusal(RunRefusal::Late, late as u32));
     }

@@ -83,6 +83,6 @@ pub fn play(s: &[u8], q: &[u8], grid: &mut [u8]) -> Played
     let last = play_ticks(s, q, &tables, grid);
     let owed = last.owed;
     let ends = last.ends;
-    let judged = ending::judge(s, q, &owed, &ends);
+    let judged = ending::judge(s, q, &tables, &owed, &ends);
     Played { ends, judged }
 }

@@ -29,11 +29,14 @@ play-ticks-requires c κs = c .before .before .tabulate .ensures
 judge-requires : tie.Need-judge-requires
 unfolding sizesOf
 judge-requires c κs =
-    let c6 = c .before .before .before .before .before .before in
-    let c10 = c6 .before .before .before .before in
-    finished-stopped _ _ _ _ _ _
-    (omega (arith, c10 .if1 .left, ap (λ (r : Sizes). r .activities) (c10 .before .before .counts .ensures)))
-    (c6 .play-ticks .ensures)
+    let c7 = c .before .before .before .before .before .before .before in
+    let c10 = c7 .before .before .before in
+    let c11 = c10 .before in (
+      c10 .tabulate .ensures,
+      finished-stopped _ _ _ _ _ _
+          (omega (arith, c11 .if1 .left, ap (λ (r : Sizes). r .activities) (c11 .before .before .counts .ensures)))
+          (c7 .play-ticks .ensures),
+    )
 
 same-length : tie.Need-same-length
 same-length c = search needs
@@ -41,11 +44,11 @@ same-length c = search needs
 returns-2 : tie.Need-returns-2
 unfolding sizesOf
 returns-2 c =
-    let c7 = c .before .before .before .before .before .before .before in
-    let c11 = c7 .before .before .before .before in
+    let c8 = c .before .before .before .before .before .before .before .before in
+    let c12 = c8 .before .before .before .before in
     played _ _ _ _ _ _ _
-    (omega (arith, c11 .if1 .left, ap (λ (r : Sizes). r .activities) (c11 .before .before .counts .ensures)))
-    (c7 .play-ticks .ensures) (c .judge .ensures)
+    (omega (arith, c12 .if1 .left, ap (λ (r : Sizes). r .activities) (c12 .before .before .counts .ensures)))
+    (c8 .play-ticks .ensures) (c .judge .ensures)
 
 pub play-spec : {M : Type 1} → statement M
 play-spec =

@@ -23,7 +23,7 @@ first-owing-requires : tie.Need-first-owing-requires
 unfolding sizesOf
 first-owing-requires c κs =
     let c4 = c .before .before .before .before in
-    omega (arith, ap (λ (r : Sizes). r .activities) (c .before .counts .ensures), c4 .pre .few)
+    omega (arith, ap (λ (r : Sizes). r .activities) (c .before .counts .ensures), c4 .pre .0 .few)
 
 cast-refusal : tie.Need-cast-refusal
 cast-refusal c = search needs
@@ -38,20 +38,20 @@ returns c =
     let c4 = c2 .before .before in
     let c7 = c4 .before .before .before in
     ap {B = Option Refusal} some (c .refusal .ensures)
-    ∙ sym (owed-first _ _ _ _ (c7 .pre) _ (ap (λ (r : Sizes). r .activities) (c4 .counts .ensures)) _ (c2 .first-owing .ensures)
+    ∙ sym (owed-first _ _ _ _ (c7 .pre .1) _ (ap (λ (r : Sizes). r .activities) (c4 .counts .ensures)) _ (c2 .first-owing .ensures)
     (c .before .if1 .taken))
 
 table-requires : tie.Need-table-requires
 table-requires c κs = search needs
 
-table-requires-2 : tie.Need-table-requires-2
-table-requires-2 c κs = search needs
+index-1-first-late : tie.Need-index-1-first-late
+index-1-first-late c = search needs
 
 first-late-requires : tie.Need-first-late-requires
 unfolding sizesOf
 first-late-requires c κs =
-    let c7 = c .before .before .before .before .before .before .before in
-    omega (arith, ap (λ (r : Sizes). r .activities) (c7 .counts .ensures), c7 .before .before .before .pre .few)
+    let c6 = c .before .before .before .before .before .before in
+    omega (arith, ap (λ (r : Sizes). r .activities) (c6 .counts .ensures), c6 .before .before .before .pre .0 .few)
 
 cast-refusal-2 : tie.Need-cast-refusal-2
 cast-refusal-2 c = search needs
@@ -64,26 +64,24 @@ unfolding sizesOf columnOf
 returns-2 c =
     let c2 = c .before .before in
     let c6 = c2 .before .before .before .before in
-    let c8 = c6 .before .before in
-    let c10 = c8 .before .before in
-    let start = c10 .before .before .before in
-    let few = start .pre .few in
+    let c9 = c6 .before .before .before in
+    let start = c9 .before .before .before in
+    let tabled = start .pre .0 in
     ap {B = Option Refusal} some (c .refusal2 .ensures)
-    ∙ sym (late-first _ _ _ _ (start .pre) _ (ap (λ (r : Sizes). r .activities) (c10 .counts .ensures)) _ _ _ _
-    (by-table _ _ _ few (c6 .table .ensures)) (by-table _ _ _ few (c2 .before .before .before .table2 .ensures))
-    (c8 .first-owing .ensures) (c6 .before .if1 .left) (c2 .first-late .ensures) (c .before .if2 .taken))
+    ∙ sym (late-first _ _ _ _ (start .pre .1) _ (ap (λ (r : Sizes). r .activities) (c9 .counts .ensures)) _ _ _ _
+    (tabled .release-ticks) (by-table _ _ _ (tabled .few) (c2 .before .before .before .table .ensures))
+    (c6 .before .first-owing .ensures) (c6 .if1 .left) (c2 .first-late .ensures) (c .before .if2 .taken))
 
 returns-3 : tie.Need-returns-3
 unfolding sizesOf columnOf
 returns-3 c =
     let c5 = c .before .before .before .before .before in
-    let c7 = c5 .before .before in
-    let c9 = c7 .before .before in
-    let start = c9 .before .before .before in
-    let few = start .pre .few in
-    sym (none-late _ _ _ _ (start .pre) _ (ap (λ (r : Sizes). r .activities) (c9 .counts .ensures)) _ _ _ _
-    (by-table _ _ _ few (c5 .table .ensures)) (by-table _ _ _ few (c .before .before .before .before .table2 .ensures))
-    (c7 .first-owing .ensures) (c5 .before .if1 .left) (c .before .first-late .ensures) (c .if2 .left))
+    let c8 = c5 .before .before .before in
+    let start = c8 .before .before .before in
+    let tabled = start .pre .0 in
+    sym (none-late _ _ _ _ (start .pre .1) _ (ap (λ (r : Sizes). r .activities) (c8 .counts .ensures)) _ _ _ _
+    (tabled .release-ticks) (by-table _ _ _ (tabled .few) (c .before .before .before .before .table .ensures))
+    (c5 .before .first-owing .ensures) (c5 .if1 .left) (c .before .first-late .ensures) (c .if2 .left))
 
 pub judge-spec : {M : Type 1} → statement M
 judge-spec =
@@ -96,7 +94,7 @@ judge-spec =
     refusal-requires
     returns
     table-requires
-    table-requires-2
+    index-1-first-late
     first-late-requires
     cast-refusal-2
     refusal-requires-2
