@@ -35,7 +35,7 @@ pub window-row : (s r : List ℕ) (a : ℕ) (row : Span) (sizes : Sizes) → row
 unfolding window noneOutside spanOf sizesOf
 window-row s r a row sizes e f = rw (e, f)
 
--- a window that spans something has an end after a tick
+-- a window that spans something ends after its start
 pub span-end : {spans : Bool} (start end horizon : ℕ) → spans ≡ (ltb start end && leb end horizon) → spans ≡ true → start < end
 span-end start end horizon e t = ltb→lt start end (T-and (ltb start end) (leb end horizon) .0 (subst T (sym t ∙ e) tt) .0)
 

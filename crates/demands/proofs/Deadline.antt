@@ -21,8 +21,7 @@ use Rattle.schedule.specs.Choice.{Choice, choice, choiceTiming}
 use Rattle.schedule.specs.Plan.{plan, planTiming, planForm}
 use Rattle.schedule.specs.Machine.{machineEnd}
 use Rattle.schedule.specs.Checks.{rule23, ruleOf, rulesOf, plainOrder, strictOrder, plainRules, strictRules}
-use Rattle.schedule.specs.Numbers.{ruleNumber}
-use Rattle.schedule.specs.Answers.{Answer, refused, answer, Figures, figures, plainChecks, strictChecks, plainVerdict, strictVerdict}
+use Rattle.schedule.specs.Answers.{Answer, refused, answer, figures, plainChecks, strictChecks, plainVerdict, strictVerdict}
 use Rattle.schedule.specs.Answers.{owedRule, runRules, runChecks, Written, written, lengthNeeded, runAnswer, runBuffer}
 use Rattle.schedule.specs.Report.{dash, reportRow, rowsRule, reportRules, reportAnswer, fills, rowsAfter, reportRows}
 use Rattle.laws.proofs.FirstBreak.{none-iff, break-same, rule-stops, rule-goes-on, _&_}

@@ -107,7 +107,7 @@ module _ (s q : List ℕ) where
   unfolding runChecks
   model-holds e = append-none (modelForm s) (choiceForm (model s) q) e
 
-  -- none of them is numbered 42 or 43
+  -- none of them is numbered 21 to 43
   pub input-numbers : AllNumbers OfForm (runChecks s q)
   unfolding runChecks
   input-numbers =

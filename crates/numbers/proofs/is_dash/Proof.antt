@@ -1,6 +1,6 @@
 -- `numbers::is_dash` meets its contract: the dash is the figure of which only the sign's bit is set.
 -- Assumes nothing.
-use Prim.Native.Nat.{_-_, suc, ℕ}
+use Prim.Native.Nat.{suc, _-_}
 use native.Mathlib.Decide.{ℕ-discrete}
 use native.Mathlib.Omega.{arith}
 use mathlib.Core.Path.{_≡_, sym, _∙_}

@@ -1,7 +1,7 @@
 -- `checks::activity::window_holds` meets its contract, by the tests in turn. Assumes nothing.
 use native.Mathlib.Omega.{arith}
 use mathlib.Core.Bool.{not, Bool·not-not}
-use mathlib.Core.Path.{sym, ap, _∙_}
+use mathlib.Core.Path.{ap, _∙_}
 use borrow.Author.Needs.{needs}
 use borrow.Author.Tests.{not-true, not-false}
 use Rattle.checks.proofs.ActivityLaws.{window-row, span-end}
