@@ -3,7 +3,8 @@
 //! The "objective tightened to" that follows a solution is the solution's own value: its usage in the two sections on
 //! CPU usage, its makespan in the two others. A value that the solver left open is taken at its highest, and once more
 //! at its lowest. All priorities are equal and activity 5 is active at tick 0 while activity 0 waits, so that the strict
-//! check refuses each with 31 0 0.
+//! check refuses each with 31 0 0. Rule 23 is not the document's: here an end is compared with release + period. Every
+//! release is 0, so that the two agree.
 
 use std::fs;
 
