@@ -13,9 +13,9 @@ use Rattle.schedule.specs.Rule.{Rule}
 use Rattle.schedule.specs.Model.{Model, model, within, temporally, byData}
 use Rattle.schedule.specs.Plan.{Plan, plan, active}
 use Rattle.schedule.specs.Numbers.{ruleNumber}
-use Rattle.schedule.specs.Checks.{countOf, efe, window, rule22, rule24, rule25, rule26, rule27}
+use Rattle.schedule.specs.Checks.{countOf, efe, window, rule22, rule25, rule26, rule27}
 use Rattle.laws.proofs.Words.{wordOf-ext}
-use Rattle.laws.proofs.Opened.{check-rules}
+use Rattle.schedule.specs.Opened.{check-rules}
 use Rattle.laws.proofs.Named.{rule-number}
 use Rattle.laws.proofs.Tests.{T-and}
 use Rattle.records.specs.declared.plan.Span.{Span}
@@ -66,7 +66,6 @@ unfolding check-rules
 activity-rows ActivityRule.Window m p = refl
 activity-rows ActivityRule.Count m p = refl
 activity-rows ActivityRule.Deadline m p = refl
-activity-rows ActivityRule.Span m p = refl
 activity-rows ActivityRule.Temporal m p = refl
 activity-rows ActivityRule.Data m p = refl
 activity-rows ActivityRule.Eligible m p = refl
@@ -77,7 +76,6 @@ unfolding check-rules
 activity-columns ActivityRule.Window m p h = omega arith
 activity-columns ActivityRule.Count m p h = omega arith
 activity-columns ActivityRule.Deadline m p h = omega arith
-activity-columns ActivityRule.Span m p h = omega arith
 activity-columns ActivityRule.Temporal m p h = h
 activity-columns ActivityRule.Data m p h = h
 activity-columns ActivityRule.Eligible m p h = omega arith
@@ -90,16 +88,11 @@ pub flagged : (r : Rule) (a mask : ℕ) (holds : Bool) → r .columns ≡ 1 → 
     → mask ≡ brokenMask r a
 flagged r a mask holds one e h = e ∙ ap (λ (t : Bool). cond t 0 1) h ∙ sym (one-column r a one)
 
--- 22, 24 and 27 from the tables
+-- 22 and 27 from the tables
 pub count-test : (m : Model) (p : Plan) (a count : ℕ) (t : Bool)
     → t ≡ within (m .least-duration a) (m .most-duration a) count → count ≡ countOf m p a → t ≡ rule22 m p .test a 0
 unfolding rule22
 count-test m p a count t e k = e ∙ ap (within (m .least-duration a) (m .most-duration a)) k
-
-pub span-test : (m : Model) (p : Plan) (a start count end : ℕ) (t : Bool)
-    → t ≡ leb (start + count) end → start ≡ p .start a → count ≡ countOf m p a → end ≡ p .end a → t ≡ rule24 m p .test a 0
-unfolding rule24
-span-test m p a start count end t e s k n = e ∙ ap₂ leb (ap₂ _+_ s k) n
 
 pub eligible-test : (m : Model) (p : Plan) (a start count finish from : ℕ)
     → from ≡ finish - count → start ≡ p .start a → count ≡ countOf m p a → finish ≡ finishOf m p a

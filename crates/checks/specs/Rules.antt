@@ -2,7 +2,7 @@
 -- Assumes nothing.
 use Prim.Native.Nat.{ℕ, _+_, _<_}
 use mathlib.Core.Bool.{Bool, true, false, _&&_, not}
-use mathlib.Core.List.{List, [], _∷_}
+use mathlib.Core.List.{List}
 use mathlib.Core.Path.{_≡_}
 use lib.Dec.{leb, ltb}
 use lib.ListN.{getD}
@@ -21,7 +21,6 @@ abbrev pub activityName : ActivityRule → RuleRefusal
 activityName ActivityRule.Window = RuleRefusal.Window
 activityName ActivityRule.Count = RuleRefusal.Count
 activityName ActivityRule.Deadline = RuleRefusal.Deadline
-activityName ActivityRule.Span = RuleRefusal.Span
 activityName ActivityRule.Temporal = RuleRefusal.Temporal
 activityName ActivityRule.Data = RuleRefusal.Data
 activityName ActivityRule.Eligible = RuleRefusal.Eligible
@@ -43,22 +42,10 @@ pub record Counted (m : Model) (p : Plan) (outside : ℕ) (tables : List (List �
   pub tabulated : Tabulated m p tables
   pub strays : (a : ℕ) → a < m .activities → bit outside a ≡ not (noneOutside m p a)
 
--- the rules of activities in the order in which the code tries them
-abbrev pub activityOrder : List ActivityRule
-activityOrder =
-    ActivityRule.Window
-    ∷ ActivityRule.Count
-    ∷ ActivityRule.Deadline
-    ∷ ActivityRule.Span
-    ∷ ActivityRule.Temporal
-    ∷ ActivityRule.Data
-    ∷ ActivityRule.Eligible
-    ∷ []
+-- the rules of activities and of ticks that a list names, in its order
+abbrev pub activityRules : List ActivityRule → Model → Plan → List Rule
+activityRules order m p = rulesNamed (λ rule. activityRule rule m p) order
 
-unfoldable pub activityRules : Model → Plan → List Rule
-activityRules m p = rulesNamed (λ rule. activityRule rule m p) activityOrder
-
--- the rules of ticks that a list names, in its order
 abbrev pub tickRules : List TickRule → Model → Plan → List Rule
 tickRules order m p = rulesNamed (λ rule. tickRule rule m p) order
 

@@ -1,4 +1,4 @@
-// Rules 21 to 27, activity by activity.
+// Rules 21 to 23 and 25 to 27, activity by activity.
 use crate::page::COUNTS;
 use crate::page::DELAYS;
 use crate::page::ENDS;
@@ -37,8 +37,6 @@ pub(crate) enum ActivityRule {
     Count,
     // 23 "a thread with a period" has "end ≤ release + period"
     Deadline,
-    // 24 "end − start ≥ count"
-    Span,
     // 25 "start ≥ end + delay of each temporal predecessor B"
     Temporal,
     // 26 "start ≥ end of each data predecessor B"
@@ -87,8 +85,8 @@ fn deadline_holds(s: &[u8], r: &[u8], a: Activity) -> bool
         ≡ inTime (model (now (s .entry))) (planTiming (plan (now (r .entry)))) (plan (now (r .entry)) .end) (a .0) ⌝ }
 {
     let row = records::plan::thread_row(r, thread_of(s, a));
-    let span = records::plan::activity_row(r, a);
-    on_time(row.release as u32, row.period as u32, span.end as u32)
+    let times = records::plan::activity_row(r, a);
+    on_time(row.release as u32, row.period as u32, times.end as u32)
 }
 
 // Whether a start comes before a predecessor's end and delay.
@@ -146,13 +144,12 @@ fn breaking(
     let row = records::model::activity_row(s, a);
     let sizes = records::model::counts(s);
     let n = sizes.activities;
-    let span = records::plan::activity_row(r, a);
-    let start = span.start as u32;
+    let times = records::plan::activity_row(r, a);
+    let start = times.start as u32;
     match rule {
         ActivityRule::Window => flag(window_holds(s, r, a, outside)),
         ActivityRule::Count => flag(count_holds(s, a, at(&tables[COUNTS], a))),
         ActivityRule::Deadline => flag(deadline_holds(s, r, a)),
-        ActivityRule::Span => flag(passed(start, at(&tables[COUNTS], a), at(&tables[ENDS], a))),
         ActivityRule::Temporal => early_mask(
             row.temporal_mask,
             start,
@@ -175,7 +172,6 @@ fn name(rule: ActivityRule) -> RuleRefusal
         ActivityRule::Window => RuleRefusal::Window,
         ActivityRule::Count => RuleRefusal::Count,
         ActivityRule::Deadline => RuleRefusal::Deadline,
-        ActivityRule::Span => RuleRefusal::Span,
         ActivityRule::Temporal => RuleRefusal::Temporal,
         ActivityRule::Data => RuleRefusal::Data,
         ActivityRule::Eligible => RuleRefusal::Eligible,

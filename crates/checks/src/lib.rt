@@ -36,20 +36,18 @@ fn refused(why: RuleRefusal, a: u32, b: u32) -> Pass
     Pass::Refused(Refusal::Rule(why, Place { a, b }))
 }
 
-// Rules 21 to 27, "each tried over everything before the next".
-fn activity_rules(s: &[u8], r: &[u8], outside: u32, tables: &Tables) -> Pass
+// Rules of activities, "each tried over everything before the next".
+fn activity_rules(
+    order: [ActivityRule; 6],
+    s: &[u8],
+    r: &[u8],
+    outside: u32,
+    tables: &Tables,
+) -> Pass
+    requires { ⌜ length order ≡ 6 ⌝ }
     requires { ⌜ Counted (model (now s)) (plan (now r)) outside (now tables) ⌝ }
-    ensures { λ x. ⌜ passNumbers x ≡ firstBreak (activityRules (model (now (s .entry))) (plan (now (r .entry)))) ⌝ }
+    ensures { λ x. ⌜ passNumbers x ≡ firstBreak (activityRules order (model (now (s .entry))) (plan (now (r .entry)))) ⌝ }
 {
-    let order = [
-        ActivityRule::Window,
-        ActivityRule::Count,
-        ActivityRule::Deadline,
-        ActivityRule::Span,
-        ActivityRule::Temporal,
-        ActivityRule::Data,
-        ActivityRule::Eligible,
-    ];
     let mut k: usize = 0;
     while k < order.len() {
         let rule = order[k];
@@ -62,7 +60,7 @@ fn activity_rules(s: &[u8], r: &[u8], outside: u32, tables: &Tables) -> Pass
     Pass::Holds
 }
 
-// Two rules of ticks, each tried at every tick before the next.
+// Rules of ticks, likewise.
 fn tick_rules(order: [TickRule; 2], s: &[u8], r: &[u8], tables: &Tables) -> Pass
     requires { ⌜ length order ≡ 2 ⌝ }
     requires { ⌜ Tabulated (model (now s)) (plan (now r)) (now tables) ⌝ }
@@ -87,7 +85,20 @@ fn grid_rules(s: &[u8], r: &[u8], strict: bool) -> Pass
 {
     let tables = page::tabulate(s, r);
     let outside = windows::strays(s, r, &tables);
-    let activities = activity_rules(s, r, outside, &tables);
+    let activities = activity_rules(
+        [
+            ActivityRule::Window,
+            ActivityRule::Count,
+            ActivityRule::Deadline,
+            ActivityRule::Temporal,
+            ActivityRule::Data,
+            ActivityRule::Eligible,
+        ],
+        s,
+        r,
+        outside,
+        &tables,
+    );
     if let Pass::Refused(_) = activities {
         return activities;
     }

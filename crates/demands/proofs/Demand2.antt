@@ -23,7 +23,7 @@ use Rattle.schedule.specs.Answers.{plainChecks, strictChecks, plainVerdict, str
 use Rattle.schedule.specs.Answers.{from-input, from-buffer, runOutcome, answerOf, runAnswer, bufferAfter, runBuffer}
 use Rattle.laws.proofs.FirstBreak.{none-iff, some-iff, append-some, hold-append, hold-or-broken}
 use Rattle.laws.proofs.Named.{among, among-front, named, all-named}
-use Rattle.laws.proofs.Opened.{check-rules}
+use Rattle.schedule.specs.Opened.{check-rules}
 use Rattle.laws.proofs.Sound.{
   modelForm-sound,
   choiceForm-sound,
@@ -113,7 +113,6 @@ says-plain m p says = record {
   window = λ a l. says RuleRefusal.Window tt a 0 l (omega arith);
   duration = λ a l. says RuleRefusal.Count tt a 0 l (omega arith);
   deadline = λ a l. says RuleRefusal.Deadline tt a 0 l (omega arith);
-  span = λ a l. says RuleRefusal.Span tt a 0 l (omega arith);
   temporal = says RuleRefusal.Temporal tt;
   by-data = says RuleRefusal.Data tt;
   eligible = λ a l. says RuleRefusal.Eligible tt a 0 l (omega arith);
@@ -130,7 +129,6 @@ unfolding check-rules
 keeps-named m p names k idle tie RuleRefusal.Window _ = λ a _ l _. k .window a l
 keeps-named m p names k idle tie RuleRefusal.Count _ = λ a _ l _. k .duration a l
 keeps-named m p names k idle tie RuleRefusal.Deadline _ = λ a _ l _. k .deadline a l
-keeps-named m p names k idle tie RuleRefusal.Span _ = λ a _ l _. k .span a l
 keeps-named m p names k idle tie RuleRefusal.Temporal _ = k .temporal
 keeps-named m p names k idle tie RuleRefusal.Data _ = k .by-data
 keeps-named m p names k idle tie RuleRefusal.Eligible _ = λ a _ l _. k .eligible a l

@@ -35,7 +35,7 @@ use Rattle.laws.proofs.FirstBreak.{AllSound, some-iff, append-some, sound-appen
 use Rattle.laws.proofs.Sound.{plainChecks-sound, strictChecks-sound, runChecks-sound}
 use Rattle.laws.proofs.VerdictLaws.{input-number, report-from-input, report-answer}
 use Rattle.laws.proofs.RuleNumbers.{AllRules, rules-append, first-broken-rule}
-use Rattle.laws.proofs.Opened.{form-rules, check-rules}
+use Rattle.schedule.specs.Opened.{form-rules, check-rules}
 use Rattle.laws.proofs.Ranges.{chosen-release-lt, chosen-period-lt}
 use Rattle.laws.proofs.Formed.{input-formed}
 use Rattle.laws.proofs.LatenessLaws.{rows-filled, rows-at}

@@ -9,3 +9,5 @@ pub mod Lateness
 pub mod WrongReports
 pub mod Deadline
 pub mod WrongDeadlines
+pub mod Rule24
+pub mod WrongRemovals

@@ -3,3 +3,4 @@ pub mod Efe
 pub mod ByNumber
 pub mod Lateness
 pub mod Deadline
+pub mod Rule24

@@ -15,26 +15,13 @@ use Rattle.schedule.specs.Plan.{Plan, planTiming, active}
 use Rattle.schedule.specs.Machine.{owes, endOf, ready, selected, machineWord, machineStart, machineEnd, machineOwes}
 use Rattle.schedule.specs.Checks.{countOf, efe, Waiting, Window}
 use Rattle.schedule.specs.Keeps.{KeepsStrict}
-use Rattle.laws.proofs.Counting.{count-ext, count-none, count-stops, count-span}
+use Rattle.laws.proofs.Counting.{count-ext, count-stops}
 use Rattle.laws.proofs.Selection.{Before, selected-few, selected-all, selected-first}
 use Rattle.laws.proofs.Lowest.{lowest-is, lowest-found}
 use Rattle.laws.proofs.MachineLaws.{Ready, ready-sound, at, runs, runs-selected, runs-ready, ones-runs, runs-duration}
 use Rattle.laws.proofs.MachineLaws.{owed-done, stays, Ended, ended}
 use Rattle.laws.proofs.EfeLaws.{efe-release, efe-bound}
-
--- A plan that keeps its window has its active ticks inside it, so rule 24 follows from rule 21.
-pub window-span : (m : Model) (p : Plan) (a : ℕ) → Window m p a → p .start a + countOf m p a ≤ p .end a
-unfolding countOf
-window-span m p a win =
-    omega (
-      arith,
-      win .ordered,
-      count-none (p .start a) (λ t. active p t a)
-          (λ t l x. absurd (omega (arith, win .none-outside t (omega (arith, win .ordered, win .inside)) x .0))),
-      count-stops (p .end a) (m .horizon) (λ t. active p t a) (win .inside)
-          (λ t lo hi x. absurd (omega (arith, win .none-outside t hi x .1))),
-      count-span (p .start a) (p .end a) (λ t. active p t a) (omega (arith, win .ordered)),
-    )
+use Rattle.laws.proofs.Windows.{window-span}
 
 -- A plan that the machine makes: its words, starts, ends and releases are the machine's.
 pub record Made (m : Model) (release duration : ℕ → ℕ) (p : Plan) : Type 0 where
@@ -216,7 +203,6 @@ module _ (m : Model) (release duration : ℕ → ℕ) (p : Plan) (made : Made m 
       window = window;
       duration = λ a l. subst (λ (d : ℕ). Within (m .least-duration a) (m .most-duration a) d) (sym (counted a l)) (range a l);
       deadline = deadline;
-      span = λ a l. window-span m p a (window a l);
       temporal = temporal;
       by-data = by-data;
       eligible = eligible;

@@ -317,3 +317,21 @@ hold-or-broken rules s = which (firstBreak rules) refl
 pub rule-goes-on : (r : Rule) (rs : List Rule) → break r ≡ none → firstBreak (r ∷ rs) ≡ firstBreak rs
 unfolding firstBreak
 rule-goes-on r rs e = ap (λ o. orElse o (firstBreak rs)) e
+
+-- two lists with one first break have one behind any list
+pub append-same : (xs ys zs : List Rule) → firstBreak ys ≡ firstBreak zs → firstBreak (xs ++ ys) ≡ firstBreak (xs ++ zs)
+unfolding firstBreak
+append-same [] ys zs e = e
+append-same (r ∷ xs) ys zs e = ap (orElse (break r)) (append-same xs ys zs e)
+
+-- a rule that the rules before it imply changes no first break
+pub implied-rule : (before : List Rule) (rule : Rule) (after : List Rule) → AllSound before → Sound rule
+    → (AllHold before → Everywhere rule) → firstBreak (before ++ (rule ∷ after)) ≡ firstBreak (before ++ after)
+implied-rule before rule after sound decides implied = by (firstBreak before) refl
+  where
+    by : (o : Option Refusal) → firstBreak before ≡ o → firstBreak (before ++ (rule ∷ after)) ≡ firstBreak (before ++ after)
+    by (some x) e = append-some before (rule ∷ after) x e ∙ sym (append-some before after x e)
+    by none e =
+        append-none before (rule ∷ after) e
+        ∙ rule-goes-on rule after (break-none rule decides .1 (implied (none-iff before sound .0 e)))
+        ∙ sym (append-none before after e)

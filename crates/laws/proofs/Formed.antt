@@ -16,7 +16,7 @@ use Rattle.schedule.specs.Numbers.{formNumber}
 use Rattle.laws.proofs.FieldLaws.{field-lt}
 use Rattle.laws.proofs.FirstBreak.{says, none-iff, hold-append}
 use Rattle.laws.proofs.Sound.{runChecks-sound}
-use Rattle.laws.proofs.Opened.{form-rules}
+use Rattle.schedule.specs.Opened.{form-rules}
 
 -- rules 3, 6 and 7
 pub model-says : (s : List ℕ) → AllHold (modelForm s) → Formed (model s)

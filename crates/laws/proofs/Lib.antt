@@ -10,7 +10,6 @@ pub mod Ranges
 pub mod Parts
 pub mod PlanBytes
 pub mod PlanForm
-pub mod Opened
 pub mod FirstBreak
 pub mod Deadlines
 pub mod LatenessLaws
@@ -22,6 +21,7 @@ pub mod MachineLaws
 pub mod MachinePlan
 pub mod Usage
 pub mod EfeLaws
+pub mod Windows
 pub mod Unique
 pub mod Exists
 pub mod NumbersLaws

@@ -13,7 +13,7 @@ use Rattle.schedule.specs.Checks.{ruleOf, rulesOf}
 use Rattle.schedule.specs.Numbers.{ruleNumber}
 use Rattle.laws.proofs.Tests.{T-or, T-eqb}
 use Rattle.laws.proofs.NumbersLaws.{rule-injective}
-use Rattle.laws.proofs.Opened.{check-rules}
+use Rattle.schedule.specs.Opened.{check-rules}
 
 -- a name stands in an order
 abbrev pub among : RuleRefusal → List RuleRefusal → Bool
@@ -71,7 +71,6 @@ module _ (m : Model) (p : Plan) where
   rule-number RuleRefusal.Window = refl
   rule-number RuleRefusal.Count = refl
   rule-number RuleRefusal.Deadline = refl
-  rule-number RuleRefusal.Span = refl
   rule-number RuleRefusal.Temporal = refl
   rule-number RuleRefusal.Data = refl
   rule-number RuleRefusal.Eligible = refl

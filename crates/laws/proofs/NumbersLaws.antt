@@ -1,6 +1,7 @@
 -- Equal numbers and values mean equal answers: each map of crate schedule's Numbers is undone by a map back.
 -- Assumes nothing.
 use Prim.Native.Nat.{ℕ}
+use native.Mathlib.Omega.{arith}
 use mathlib.Core.Bool.{cond}
 use mathlib.Core.List.{List, [], _∷_, _++_, map}
 use mathlib.Core.Path.{_≡_, refl, sym, ap, _∙_}
@@ -17,7 +18,7 @@ use Rattle.schedule.specs.declared.FormRefusal.the-variants.{ModelSize, ModelVe
 use Rattle.schedule.specs.declared.FormRefusal.the-variants.{ThreadRow, ActivityRow, MaskRow, SecondSize}
 use Rattle.schedule.specs.declared.FormRefusal.the-variants.{SecondVersion, SecondCounts, SecondFormula}
 use Rattle.schedule.specs.declared.FormRefusal.the-variants.{ThreadChoice, DurationChoice, WordBits}
-use Rattle.schedule.specs.declared.RuleRefusal.the-variants.{Window, Count, Deadline, Span, Temporal, Data}
+use Rattle.schedule.specs.declared.RuleRefusal.the-variants.{Window, Count, Deadline, Temporal, Data}
 use Rattle.schedule.specs.declared.RuleRefusal.the-variants.{Eligible, Cores, Preemption, Idle, Tie}
 use Rattle.schedule.specs.declared.RunRefusal.the-variants.{Room, Owed, Late, Rows}
 use Rattle.schedule.specs.Rule
@@ -78,7 +79,6 @@ rule-undone : (why : RuleRefusal) (at : Place) → refusalOf (refusalNumbers (Re
 rule-undone Window at = refl
 rule-undone Count at = refl
 rule-undone Deadline at = refl
-rule-undone Span at = refl
 rule-undone Temporal at = refl
 rule-undone Data at = refl
 rule-undone Eligible at = refl
@@ -140,6 +140,18 @@ rule-injective x y e =
     let same : Refusal.Rule x at ≡ Refusal.Rule y at =
     refusal-injective (Refusal.Rule x at) (Refusal.Rule y at) (ap (λ (k : ℕ). record { number = k; A = 0; B = 0 }) e) in
     cc
+
+-- a number that none of them has is used by no refusal
+unused : (number : ℕ) → ((at : Place) → ¬ (refusalNumbers (numbered number at refusals) .number ≡ number))
+    → (x : Refusal) → ¬ (refusalNumbers x .number ≡ number)
+unused number absent x e =
+    let at : Place = record { a = refusalNumbers x .A; b = refusalNumbers x .B } in
+    let same : numbered number at refusals ≡ x = ap (λ k. numbered k at refusals) (sym e) ∙ refusal-undone x in
+    absent at (ap (λ (y : Refusal). refusalNumbers y .number) same ∙ e)
+
+-- "The number is never used again" (U11 of 02)
+pub never-24 : (x : Refusal) → ¬ (refusalNumbers x .number ≡ 24)
+never-24 = unused 24 (λ at e. omega (arith, e))
 
 pub verdict-injective : (x y : Verdict) → verdictNumbers x ≡ verdictNumbers y → x ≡ y
 verdict-injective = undone-injective verdictNumbers verdictOf verdict-undone

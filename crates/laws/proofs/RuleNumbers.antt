@@ -13,7 +13,7 @@ use Rattle.schedule.specs.Model.{Model, modelForm}
 use Rattle.schedule.specs.Choice.{choiceForm}
 use Rattle.schedule.specs.Plan.{planForm}
 use Rattle.laws.proofs.FirstBreak.{_&_}
-use Rattle.laws.proofs.Opened.{form-rules}
+use Rattle.schedule.specs.Opened.{form-rules}
 use Rattle.laws.proofs.Tests.{T-or}
 
 -- every rule of a list has a property
@@ -33,6 +33,10 @@ at-split P (r ∷ before) rule after h = at-split P before rule after (h .1)
 pub rules-append : (P : Rule → Type 0) (xs ys : List Rule) → AllRules P xs → AllRules P ys → AllRules P (xs ++ ys)
 rules-append P [] ys h k = k
 rules-append P (r ∷ xs) ys h k = (h .0, rules-append P xs ys (h .1) k)
+
+pub rules-follow : (P Q : Rule → Type 0) (rules : List Rule) → ((r : Rule) → P r → Q r) → AllRules P rules → AllRules Q rules
+rules-follow P Q [] f h = tt
+rules-follow P Q (r ∷ rules) f h = (f r (h .0), rules-follow P Q rules f (h .1))
 
 -- then so has the rule that is broken first
 pub first-broken-rule : (P : Rule → Type 0) (rules : List Rule) (x : Refusal)

@@ -16,7 +16,7 @@ use Rattle.schedule.specs.Answers.{owedRule, runRules, plainChecks, strictCheck
 use Rattle.schedule.specs.Report.{rowsRule, reportRules}
 use Rattle.laws.proofs.Tests.{tests}
 use Rattle.laws.proofs.Deadlines.{in-time-sound}
-use Rattle.laws.proofs.Opened.{form-rules, check-rules}
+use Rattle.schedule.specs.Opened.{form-rules, check-rules}
 use Rattle.laws.proofs.FirstBreak.{Sound, AllSound, sound-append, _&_}
 
 -- the two statements that are records, by their parts
@@ -72,7 +72,6 @@ unfolding check-rules
 rule-sound RuleRefusal.Window m p = simp whole (same _)
 rule-sound RuleRefusal.Count m p = simp whole (same _)
 rule-sound RuleRefusal.Deadline m p = simp whole (same _)
-rule-sound RuleRefusal.Span m p = simp whole (same _)
 rule-sound RuleRefusal.Temporal m p = simp whole (same _)
 rule-sound RuleRefusal.Data m p = simp whole (same _)
 rule-sound RuleRefusal.Eligible m p = simp whole (same _)
@@ -81,7 +80,7 @@ rule-sound RuleRefusal.Preemption m p = simp whole (same _)
 rule-sound RuleRefusal.Idle m p = simp whole (same _)
 rule-sound RuleRefusal.Tie m p = simp whole (same _)
 
-rules-sound : (names : List RuleRefusal) (m : Model) (p : Plan) → AllSound (rulesOf names m p)
+pub rules-sound : (names : List RuleRefusal) (m : Model) (p : Plan) → AllSound (rulesOf names m p)
 rules-sound [] m p = tt
 rules-sound (name ∷ names) m p = rule-sound name m p & rules-sound names m p
 

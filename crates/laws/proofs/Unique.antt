@@ -23,6 +23,7 @@ use Rattle.laws.proofs.Selection.{Before, Picked, picked-selected}
 use Rattle.laws.proofs.Lowest.{lowest-unique}
 use Rattle.laws.proofs.MachineLaws.{Ready, ready-sound, at, runs, owes-first, owes-next, runs-selected, word-lt, end-idle, end-last}
 use Rattle.laws.proofs.EfeLaws.{efe-release, efe-bound}
+use Rattle.laws.proofs.Windows.{window-span}
 
 -- What a plan is beside a model and the machine's releases and durations: its words are 32 bits wide with no bit from
 -- m on, its releases are the machine's, and its counts are the durations.
@@ -107,7 +108,7 @@ module _ (m : Model) (release duration : ℕ → ℕ) (p : Plan) (w : Beside m r
     unfolding s done
     ready-waits a l r idle =
         let spent : (b : ℕ) → b < m .activities → efe m p b + countOf m p b ≤ p .end b =
-        λ b lb. omega (arith, k .plain .eligible b lb, k .plain .span b lb) in
+        λ b lb. omega (arith, k .plain .eligible b lb, window-span m p b (k .plain .window b lb)) in
         let after : (b : ℕ) → b < m .activities → T (temporally m b a) → p .end b + m .delay b ≤ t =
         λ b lb y. omega (arith, r .temporal b lb y .1, agrees .finished b lb (r .temporal b lb y .0)) in
         let behind : (b : ℕ) → b < m .activities → T (byData m b a) → p .end b ≤ t =

@@ -43,7 +43,6 @@ fn rule_number(why: RuleRefusal) -> u32
         RuleRefusal::Window => 21,
         RuleRefusal::Count => 22,
         RuleRefusal::Deadline => 23,
-        RuleRefusal::Span => 24,
         RuleRefusal::Temporal => 25,
         RuleRefusal::Data => 26,
         RuleRefusal::Eligible => 27,

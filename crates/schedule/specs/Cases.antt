@@ -15,6 +15,7 @@ use Rattle.schedule.specs.Choice
 use Rattle.schedule.specs.Plan
 use Rattle.schedule.specs.Machine
 use Rattle.schedule.specs.Checks
+use Rattle.schedule.specs.Opened
 use Rattle.schedule.specs.Answers
 use Rattle.schedule.specs.Report
 use Rattle.schedule.specs.Streams
@@ -90,16 +91,12 @@ unfolding Bounded.all Bounded.count Bounded.total Bounded.greatest Bounded.least
     Bounded.table Bounded.chain Bounded.bit Bounded.wordOf Bounded.ones
     Fields.field Fields.bytes
     Rule.break Rule.firstBreak
-    Model.model Model.lengthRule Model.versionRule Model.formulaRule Model.limitsRule Model.threadRule
-    Model.activityRule Model.maskRule Model.modelForm
-    Timing.inTime Timing.deadlineRule
-    Choice.choice Choice.choiceCounts Choice.rangeRule Choice.durationRule Choice.choiceForm
-    Plan.plan Plan.planBytes Plan.planCounts Plan.wordRule Plan.planForm
+    Model.model Model.modelForm Timing.inTime Choice.choice Choice.choiceForm Plan.plan Plan.planBytes Plan.planForm
+    Opened.form-rules Opened.check-rules
     Machine.endedBy Machine.ready Machine.before Machine.rank Machine.selected Machine.wordAt Machine.initial Machine.step
     Machine.stateAt Machine.machineWord Machine.machineStart Machine.machineEnd Machine.machineOwes
     Checks.countOf Checks.efeFrom Checks.efes Checks.efe Checks.waits Checks.window
-    Checks.rule21 Checks.rule22 Checks.rule23 Checks.rule24 Checks.rule25 Checks.rule26 Checks.rule27 Checks.rule28
-    Checks.rule29 Checks.rule30 Checks.rule31 Checks.plainRules Checks.strictRules
+    Checks.plainRules Checks.strictRules
     Answers.answer Answers.figures Answers.plainChecks Answers.strictChecks Answers.plainVerdict Answers.strictVerdict
     Answers.machinePlan Answers.owedRule Answers.runRules Answers.lengthNeeded Answers.runChecks Answers.concluded
     Answers.outcome Answers.runOutcome Answers.answerOf Answers.runAnswer Answers.bufferAfter Answers.runBuffer

@@ -88,16 +88,6 @@ rule22 m p = record {
 unfoldable pub rule23 : Model → Plan → Rule
 rule23 m p = deadlineRule 23 m (planTiming p) (p .end)
 
--- 24 end − start ≥ count, with no truncated difference. A activity.
-unfoldable pub rule24 : Model → Plan → Rule
-rule24 m p = record {
-  number = 24;
-  rows = m .activities;
-  columns = 1;
-  Holds = λ a _. p .start a + countOf m p a ≤ p .end a;
-  test = λ a _. leb (p .start a + countOf m p a) (p .end a);
-}
-
 -- 25 start ≥ end + delay of each temporal predecessor B. A activity.
 unfoldable pub rule25 : Model → Plan → Rule
 rule25 m p = record {
@@ -177,7 +167,6 @@ abbrev pub ruleOf : RuleRefusal → Model → Plan → Rule
 ruleOf RuleRefusal.Window = rule21
 ruleOf RuleRefusal.Count = rule22
 ruleOf RuleRefusal.Deadline = rule23
-ruleOf RuleRefusal.Span = rule24
 ruleOf RuleRefusal.Temporal = rule25
 ruleOf RuleRefusal.Data = rule26
 ruleOf RuleRefusal.Eligible = rule27
@@ -196,7 +185,6 @@ plainOrder =
     RuleRefusal.Window
     ∷ RuleRefusal.Count
     ∷ RuleRefusal.Deadline
-    ∷ RuleRefusal.Span
     ∷ RuleRefusal.Temporal
     ∷ RuleRefusal.Data
     ∷ RuleRefusal.Eligible

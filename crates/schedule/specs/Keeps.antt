@@ -17,8 +17,6 @@ pub record KeepsPlain (m : Model) (p : Plan) : Type 0 where
   pub duration : (a : ℕ) → a < m .activities → Within (m .least-duration a) (m .most-duration a) (countOf m p a)
   -- 23 a thread with a period has end ≤ release + period (U2 of 02)
   pub deadline : (a : ℕ) → a < m .activities → InTime m (planTiming p) (p .end) a
-  -- 24 end − start ≥ count, with no truncated difference
-  pub span : (a : ℕ) → a < m .activities → p .start a + countOf m p a ≤ p .end a
   -- 25 start ≥ end + delay of each temporal predecessor
   pub temporal : (a b : ℕ) → a < m .activities → b < m .activities → T (temporally m b a)
       → p .end b + m .delay b ≤ p .start a

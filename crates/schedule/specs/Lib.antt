@@ -9,6 +9,7 @@ pub mod Plan
 pub mod Machine
 pub mod Checks
 pub mod Keeps
+pub mod Opened
 pub mod Answers
 pub mod Report
 pub mod Streams

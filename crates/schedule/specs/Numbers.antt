@@ -37,7 +37,6 @@ abbrev pub ruleNumber : RuleRefusal → ℕ
 ruleNumber RuleRefusal.Window = 21
 ruleNumber RuleRefusal.Count = 22
 ruleNumber RuleRefusal.Deadline = 23
-ruleNumber RuleRefusal.Span = 24
 ruleNumber RuleRefusal.Temporal = 25
 ruleNumber RuleRefusal.Data = 26
 ruleNumber RuleRefusal.Eligible = 27

@@ -42,11 +42,11 @@ planS =
 abbrev tick : ℕ → ℕ → List ℕ → List ℕ
 tick t w r = patch (29 + 4 * t) (0 ∷ 0 ∷ 0 ∷ w ∷ []) r
 
-abbrev times : ℕ → ℕ → ℕ → List ℕ → List ℕ
+abbrev pub times : ℕ → ℕ → ℕ → List ℕ → List ℕ
 times a start end r = patch (17 + 4 * a) (0 ∷ start ∷ 0 ∷ end ∷ []) r
 
 -- "Activity 2 at tick 4 instead", "At tick 6"
-abbrev activity2-at-4 : List ℕ → List ℕ
+abbrev pub activity2-at-4 : List ℕ → List ℕ
 activity2-at-4 r = times 2 4 5 (tick 4 4 (tick 5 0 r))
 
 abbrev pub activity2-at-6 : List ℕ → List ℕ

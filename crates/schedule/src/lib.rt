@@ -46,8 +46,6 @@ pub enum RuleRefusal {
     Count,
     // 23 "a thread with a period" has "end ≤ release + period" (02)
     Deadline,
-    // 24 "end − start ≥ count"
-    Span,
     // 25 "start ≥ end + delay of each temporal predecessor B"
     Temporal,
     // 26 "start ≥ end of each data predecessor B"

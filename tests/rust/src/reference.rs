@@ -500,12 +500,11 @@ impl<'a> Page<'a> {
             && bits(activity.data).all(|b| end[b] <= t)
     }
 
-    /// 21 to 29.
+    /// 21 to 29. Rule 24 is out of the book (02).
     fn plain(&self) -> Result<(), Refusal> {
         self.window()?;
         self.duration()?;
         self.deadline()?;
-        self.window_holds_count()?;
         self.temporal_precedence()?;
         self.data_dependency()?;
         self.earliest_start()?;
@@ -547,16 +546,6 @@ impl<'a> Page<'a> {
         for (a, activity) in self.activities() {
             if self.plan.threads[activity.thread].late(self.plan.end[a]) {
                 return refuse(23, a, 0);
-            }
-        }
-        Ok(())
-    }
-
-    /// 24
-    fn window_holds_count(&self) -> Result<(), Refusal> {
-        for (a, _) in self.activities() {
-            if self.plan.end[a] < self.plan.start[a] + self.count[a] {
-                return refuse(24, a, 0);
             }
         }
         Ok(())

@@ -27,7 +27,7 @@ const DASH: i32 = -2_147_483_648;
 const CALLS: [&str; 4] = ["plain", "strict", "run", "lateness"];
 /// How often each answer that a call can give must come.
 const LEAST: u64 = 100;
-/// What each call can answer, where 0 stands for accepted. 24 follows from 21, so it is never the first broken.
+/// What each call can answer, where 0 stands for accepted. 24 is out of the book (02): no call may answer it.
 const CHECKED: &[usize] = &[0, 1, 2, 3, 4, 5, 6, 7, 8, 9, 10, 11, 12, 14, 21, 22, 23, 25, 26, 27, 28, 29];
 const CHECKED_STRICTLY: &[usize] = &[30, 31];
 const RUN: &[usize] = &[0, 1, 2, 3, 4, 5, 6, 7, 8, 9, 10, 11, 12, 13, 41, 42, 43];

@@ -5,13 +5,13 @@ use mathlib.Core.Path.{refl, ap, _∙_}
 use Rattle.schedule.specs.Model.{model}
 use Rattle.schedule.specs.Plan.{plan}
 use Rattle.schedule.specs.Timing.{deadlineRule}
-use Rattle.schedule.specs.Checks.{rule21, rule22, rule23, rule24, rule27}
+use Rattle.schedule.specs.Checks.{rule21, rule22, rule23, rule27}
 use Rattle.records.specs.declared.model.Sizes.{Sizes}
 use Rattle.records.specs.declared.model.ActivityRow.{ActivityRow}
 use Rattle.records.specs.declared.plan.Span.{Span}
 use Rattle.records.specs.Rows.{sizesOf, activityRowOf, spanOf}
 use Rattle.laws.proofs.Steps.{zeros-at}
-use Rattle.checks.proofs.ActivityLaws.{flagged, count-test, span-test, eligible-test, temporal-mask, data-mask}
+use Rattle.checks.proofs.ActivityLaws.{flagged, count-test, eligible-test, temporal-mask, data-mask}
 use borrow.Author.Needs.{needs}
 use Rattle.checks.proofs.activity.breaking.Statement.{statement}
 use Rattle.checks.proofs.activity.breaking.Tie as tie
@@ -66,27 +66,6 @@ flag-requires-3 c κs = search needs
 enum-told-4 : tie.Need-enum-told-4
 enum-told-4 c = search needs
 
-index-1-at-2 : tie.Need-index-1-at-2
-index-1-at-2 c = search needs
-
-at-requires-2 : tie.Need-at-requires-2
-at-requires-2 c κs = search needs
-
-index-1-at-3 : tie.Need-index-1-at-3
-index-1-at-3 c = search needs
-
-at-requires-3 : tie.Need-at-requires-3
-at-requires-3 c κs = search needs
-
-passed-requires : tie.Need-passed-requires
-passed-requires c κs = search needs
-
-flag-requires-4 : tie.Need-flag-requires-4
-flag-requires-4 c κs = search needs
-
-enum-told-5 : tie.Need-enum-told-5
-enum-told-5 c = search needs
-
 index-1-early-mask : tie.Need-index-1-early-mask
 index-1-early-mask c = search needs
 
@@ -99,8 +78,8 @@ early-mask-requires c κs =
     let c6 = c .before .before .before .before .before .before in
     omega (arith, ap (λ (y : Sizes). y .activities) (c6 .counts .ensures), c6 .before .before .before .before .pre .0 .tabulated .few)
 
-enum-told-6 : tie.Need-enum-told-6
-enum-told-6 c = search needs
+enum-told-5 : tie.Need-enum-told-5
+enum-told-5 c = search needs
 
 index-1-early-mask-3 : tie.Need-index-1-early-mask-3
 index-1-early-mask-3 c = search needs
@@ -111,26 +90,26 @@ early-mask-requires-2 c κs =
     let c6 = c .before .before .before .before .before .before in
     omega (arith, ap (λ (y : Sizes). y .activities) (c6 .counts .ensures), c6 .before .before .before .before .pre .0 .tabulated .few)
 
-enum-told-7 : tie.Need-enum-told-7
-enum-told-7 c = search needs
+enum-told-6 : tie.Need-enum-told-6
+enum-told-6 c = search needs
 
-index-1-at-4 : tie.Need-index-1-at-4
-index-1-at-4 c = search needs
+index-1-at-2 : tie.Need-index-1-at-2
+index-1-at-2 c = search needs
 
-at-requires-4 : tie.Need-at-requires-4
-at-requires-4 c κs = search needs
+at-requires-2 : tie.Need-at-requires-2
+at-requires-2 c κs = search needs
 
-index-1-at-5 : tie.Need-index-1-at-5
-index-1-at-5 c = search needs
+index-1-at-3 : tie.Need-index-1-at-3
+index-1-at-3 c = search needs
 
-at-requires-5 : tie.Need-at-requires-5
-at-requires-5 c κs = search needs
+at-requires-3 : tie.Need-at-requires-3
+at-requires-3 c κs = search needs
 
 less-requires : tie.Need-less-requires
 less-requires c κs = search needs
 
-flag-requires-5 : tie.Need-flag-requires-5
-flag-requires-5 c κs = search needs
+flag-requires-4 : tie.Need-flag-requires-4
+flag-requires-4 c κs = search needs
 
 returns : tie.Need-returns
 unfolding rule21
@@ -162,20 +141,19 @@ returns-3 c =
     (c .before .deadline-holds .ensures))
 
 returns-4 : tie.Need-returns-4
-unfolding rule24 spanOf
+unfolding sizesOf activityRowOf spanOf
 returns-4 c =
-    let c4 = c .before .before .before .before in
-    let c9 = c4 .before .before .before .before .before in
-    let start = c9 .before .before .before .before .before in
+    let c6 = c .before .before .before .before .before .before in
+    let c8 = c6 .before .before in
+    let start = c8 .before .before .before in
     let x = start .args in
-    let m = model (x .s .now) in
-    let p = plan (x .r .now) in
     let tables = start .pre .0 .tabulated in
-    rw (c4 .before .before .enum-told4 .given .1)
-    (flagged (rule24 m p) (x .a .0) _ _ refl (c .flag4 .ensures)
-    (span-test m p (x .a .0) _ _ _ _ (c .before .passed .ensures) (ap (λ (y : Span). y .start) (c9 .activity-row2 .ensures))
-    (c4 .at2 .ensures ∙ tables .count-ticks (x .a .0) (start .pre .1))
-    (c .before .before .at3 .ensures ∙ tables .end-ticks (x .a .0) (start .pre .1))))
+    rw (c .before .before .before .enum-told4 .given .1)
+    (c .early-mask .ensures
+    ∙ temporal-mask (model (x .s .now)) (plan (x .r .now)) _ _ (x .a .0) _ _ _
+    (ap (λ (y : ActivityRow). y .«temporal_mask») (c8 .activity-row .ensures))
+    (ap (λ (y : Span). y .start) (c6 .activity-row2 .ensures))
+    (ap (λ (y : Sizes). y .activities) (c6 .before .counts .ensures)) (tables .end-ticks) (tables .delay-ticks))
 
 returns-5 : tie.Need-returns-5
 unfolding sizesOf activityRowOf spanOf
@@ -186,30 +164,15 @@ returns-5 c =
     let x = start .args in
     let tables = start .pre .0 .tabulated in
     rw (c .before .before .before .enum-told5 .given .1)
-    (c .early-mask .ensures
-    ∙ temporal-mask (model (x .s .now)) (plan (x .r .now)) _ _ (x .a .0) _ _ _
-    (ap (λ (y : ActivityRow). y .«temporal_mask») (c8 .activity-row .ensures))
-    (ap (λ (y : Span). y .start) (c6 .activity-row2 .ensures))
-    (ap (λ (y : Sizes). y .activities) (c6 .before .counts .ensures)) (tables .end-ticks) (tables .delay-ticks))
-
-returns-6 : tie.Need-returns-6
-unfolding sizesOf activityRowOf spanOf
-returns-6 c =
-    let c6 = c .before .before .before .before .before .before in
-    let c8 = c6 .before .before in
-    let start = c8 .before .before .before in
-    let x = start .args in
-    let tables = start .pre .0 .tabulated in
-    rw (c .before .before .before .enum-told6 .given .1)
     (c .early-mask2 .ensures
     ∙ data-mask (model (x .s .now)) (plan (x .r .now)) _ _ (x .a .0) _ _ _
     (ap (λ (y : ActivityRow). y .«data_mask») (c8 .activity-row .ensures))
     (ap (λ (y : Span). y .start) (c6 .activity-row2 .ensures))
     (ap (λ (y : Sizes). y .activities) (c6 .before .counts .ensures)) (tables .end-ticks) (zeros-at 32))
 
-returns-7 : tie.Need-returns-7
+returns-6 : tie.Need-returns-6
 unfolding rule27 spanOf
-returns-7 c =
+returns-6 c =
     let c4 = c .before .before .before .before in
     let c9 = c4 .before .before .before .before .before in
     let start = c9 .before .before .before .before .before in
@@ -217,11 +180,11 @@ returns-7 c =
     let m = model (x .s .now) in
     let p = plan (x .r .now) in
     let tables = start .pre .0 .tabulated in
-    rw (c4 .before .before .enum-told7 .given .1)
-    (flagged (rule27 m p) (x .a .0) _ _ refl (c .flag5 .ensures)
+    rw (c4 .before .before .enum-told6 .given .1)
+    (flagged (rule27 m p) (x .a .0) _ _ refl (c .flag4 .ensures)
     (eligible-test m p (x .a .0) _ _ _ _ (c .before .less .ensures) (ap (λ (y : Span). y .start) (c9 .activity-row2 .ensures))
-    (c .before .before .at5 .ensures ∙ tables .count-ticks (x .a .0) (start .pre .1))
-    (c4 .at4 .ensures ∙ tables .finish-ticks (x .a .0) (start .pre .1))))
+    (c .before .before .at3 .ensures ∙ tables .count-ticks (x .a .0) (start .pre .1))
+    (c4 .at2 .ensures ∙ tables .finish-ticks (x .a .0) (start .pre .1))))
 
 pub breaking-spec : {M : Type 1} → statement M
 breaking-spec =
@@ -243,30 +206,22 @@ breaking-spec =
     deadline-holds-requires
     flag-requires-3
     enum-told-4
+    index-1-early-mask
+    index-1-early-mask-2
+    early-mask-requires
+    enum-told-5
+    index-1-early-mask-3
+    early-mask-requires-2
+    enum-told-6
     index-1-at-2
     at-requires-2
     index-1-at-3
     at-requires-3
-    passed-requires
-    flag-requires-4
-    enum-told-5
-    index-1-early-mask
-    index-1-early-mask-2
-    early-mask-requires
-    enum-told-6
-    index-1-early-mask-3
-    early-mask-requires-2
-    enum-told-7
-    index-1-at-4
-    at-requires-4
-    index-1-at-5
-    at-requires-5
     less-requires
-    flag-requires-5
+    flag-requires-4
     returns
     returns-2
     returns-3
     returns-4
     returns-5
-    returns-6
-    returns-7)
+    returns-6)

@@ -1,0 +1,75 @@
+-- Rule 24, which U11 of 02 took out of the book: what it said, the two checks as they were with it, and what is to hold of
+-- the rule, of the verdicts and of the number.
+-- Assumes nothing.
+use Prim.Native.Nat.{ℕ, _+_, _≤_}
+use mathlib.Core.List.{List, [], _∷_, _++_}
+use mathlib.Core.Path.{_≡_}
+use lib.Dec.{leb}
+use Rattle.schedule.specs.declared.Refusal.{Refusal}
+use Rattle.schedule.specs.Rule
+use Rattle.schedule.specs.Rule.{Rule, firstBreak}
+use Rattle.schedule.specs.Model.{Model, model, modelForm}
+use Rattle.schedule.specs.Plan.{Plan, plan, planForm}
+use Rattle.schedule.specs.Checks.{countOf}
+use Rattle.schedule.specs.Checks.{rule21, rule22, rule23, rule25, rule26, rule27, rule28, rule29, rule30, rule31}
+use Rattle.schedule.specs.Answers.{Answer, refused, answer, Figures, figures}
+use Rattle.schedule.specs.Answers.{plainVerdict, strictVerdict}
+use Rattle.schedule.specs.Numbers.{refusalNumbers}
+
+-- 24 end − start ≥ count, with no truncated difference. A activity.
+unfoldable pub rule24 : Model → Plan → Rule
+rule24 m p = record {
+  number = 24;
+  rows = m .activities;
+  columns = 1;
+  Holds = λ a _. p .start a + countOf m p a ≤ p .end a;
+  test = λ a _. leb (p .start a + countOf m p a) (p .end a);
+}
+
+-- the rules of the plain and of the strict check as they were, 24 between 23 and 25
+unfoldable pub formerPlain : Model → Plan → List Rule
+formerPlain m p =
+    rule21 m p
+    ∷ rule22 m p
+    ∷ rule23 m p
+    ∷ rule24 m p
+    ∷ rule25 m p
+    ∷ rule26 m p
+    ∷ rule27 m p
+    ∷ rule28 m p
+    ∷ rule29 m p
+    ∷ []
+
+unfoldable pub formerStrict : Model → Plan → List Rule
+formerStrict m p = formerPlain m p ++ (rule30 m p ∷ rule31 m p ∷ [])
+
+-- the verdict on a model's and a plan's bytes by a list of rules, behind the form rules of both
+unfoldable pub verdictBy : List Rule → List ℕ → List ℕ → Answer Figures
+verdictBy rules s r = answer (firstBreak (modelForm s ++ (planForm (model s) r ++ rules))) (figures (model s) (plan r))
+
+-- the former verdicts
+abbrev pub formerPlainVerdict : List ℕ → List ℕ → Answer Figures
+formerPlainVerdict s r = verdictBy (formerPlain (model s) (plan r)) s r
+
+abbrev pub formerStrictVerdict : List ℕ → List ℕ → Answer Figures
+formerStrictVerdict s r = verdictBy (formerStrict (model s) (plan r)) s r
+
+-- "A plan that keeps rule 21 has its active ticks inside its window, so none can break 24": at each activity
+abbrev pub CannotBreak24 : Type 0
+CannotBreak24 = (m : Model) (p : Plan) (a : ℕ) → rule21 m p .Holds a 0 → rule24 m p .Holds a 0
+
+-- "every plan's verdict and place equal the former ones": of every two byte strings, accepted with the same figures or
+-- refused with the same number, A and B
+pub record AsBefore : Type 0 where
+  pub plain : (s r : List ℕ) → plainVerdict s r ≡ formerPlainVerdict s r
+  pub strict : (s r : List ℕ) → strictVerdict s r ≡ formerStrictVerdict s r
+
+-- an answer is no refusal with number 24
+abbrev pub Not24 : {F : Type 0} → Answer F → Type 0
+Not24 said = (x : Rule.Refusal) → said ≡ refused x → ¬ (x .number ≡ 24)
+
+-- "The number is never used again": no refusal that a call can answer has it, and neither check gives it
+pub record NeverUsed : Type 0 where
+  pub declared : (x : Refusal) → ¬ (refusalNumbers x .number ≡ 24)
+  pub plain : (s r : List ℕ) → Not24 (plainVerdict s r)
+  pub strict : (s r : List ℕ) → Not24 (strictVerdict s r)
