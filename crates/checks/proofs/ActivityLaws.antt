@@ -12,6 +12,7 @@ use Rattle.schedule.specs.Bounded.{bit, wordOf, _⇒_}
 use Rattle.schedule.specs.Rule.{Rule}
 use Rattle.schedule.specs.Model.{Model, model, within, temporally, byData}
 use Rattle.schedule.specs.Plan.{Plan, plan, active}
+use Rattle.schedule.specs.declared.RuleRefusal.{RuleRefusal}
 use Rattle.schedule.specs.Numbers.{ruleNumber}
 use Rattle.schedule.specs.Checks.{countOf, efe, window, rule22, rule25, rule26, rule27}
 use Rattle.laws.proofs.Words.{wordOf-ext}
@@ -22,10 +23,10 @@ use Rattle.records.specs.declared.plan.Span.{Span}
 use Rattle.records.specs.declared.model.Sizes.{Sizes}
 use Rattle.records.specs.Rows.{spanOf, sizesOf}
 use Rattle.tables.specs.Columns.{TableOf}
-use Rattle.checks.specs.declared.activity.ActivityRule.{ActivityRule}
+use Rattle.schedule.specs.declared.ActivityRule.{ActivityRule}
 use Rattle.checks.specs.Tables.{brokenMask, finishOf}
 use Rattle.checks.proofs.MaskRow.{one-column}
-use Rattle.checks.specs.Rules.{activityRule, activityName, earlyFrom, noneOutside}
+use Rattle.checks.specs.Rules.{activityRule, earlyFrom, noneOutside}
 
 -- 21 by its parts, of a row and of sizes as they are read
 pub window-row : (s r : List ℕ) (a : ℕ) (row : Span) (sizes : Sizes) → row ≡ spanOf (plan r) a → sizes ≡ sizesOf (model s)
@@ -61,27 +62,18 @@ data-mask m p ends none a preceding start n e s k h z =
     ∙ ap (λ (x : ℕ). not (byData m b a ⇒ leb (p .end b) x)) s)
 
 -- a rule of activities is tried at m activities and at no more than 32 columns
-pub activity-rows : (rule : ActivityRule) (m : Model) (p : Plan) → activityRule rule m p .rows ≡ m .activities
+pub activity-shape : (rule : ActivityRule) (m : Model) (p : Plan)
+    → (activityRule rule m p .rows ≡ m .activities) × (m .activities ≤ 32 → activityRule rule m p .columns ≤ 32)
 unfolding check-rules
-activity-rows ActivityRule.Window m p = refl
-activity-rows ActivityRule.Count m p = refl
-activity-rows ActivityRule.Deadline m p = refl
-activity-rows ActivityRule.Temporal m p = refl
-activity-rows ActivityRule.Data m p = refl
-activity-rows ActivityRule.Eligible m p = refl
+activity-shape ActivityRule.Window m p = (refl, λ h. omega arith)
+activity-shape ActivityRule.Count m p = (refl, λ h. omega arith)
+activity-shape ActivityRule.Deadline m p = (refl, λ h. omega arith)
+activity-shape ActivityRule.Temporal m p = (refl, λ h. h)
+activity-shape ActivityRule.Data m p = (refl, λ h. h)
+activity-shape ActivityRule.Eligible m p = (refl, λ h. omega arith)
 
-pub activity-columns : (rule : ActivityRule) (m : Model) (p : Plan) → m .activities ≤ 32
-    → activityRule rule m p .columns ≤ 32
-unfolding check-rules
-activity-columns ActivityRule.Window m p h = omega arith
-activity-columns ActivityRule.Count m p h = omega arith
-activity-columns ActivityRule.Deadline m p h = omega arith
-activity-columns ActivityRule.Temporal m p h = h
-activity-columns ActivityRule.Data m p h = h
-activity-columns ActivityRule.Eligible m p h = omega arith
-
-pub activity-number : (rule : ActivityRule) (m : Model) (p : Plan) → ruleNumber (activityName rule) ≡ activityRule rule m p .number
-activity-number rule m p = rule-number m p (activityName rule)
+pub activity-number : (rule : ActivityRule) (m : Model) (p : Plan) → ruleNumber (RuleRefusal.Activity rule) ≡ activityRule rule m p .number
+activity-number rule m p = rule-number m p (RuleRefusal.Activity rule)
 
 -- a rule that names no B: the flag is its mask
 pub flagged : (r : Rule) (a mask : ℕ) (holds : Bool) → r .columns ≡ 1 → mask ≡ cond holds 0 1 → holds ≡ r .test a 0

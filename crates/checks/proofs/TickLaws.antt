@@ -15,6 +15,7 @@ use Rattle.schedule.specs.Bounded.{all, ones, bit, wordOf}
 use Rattle.schedule.specs.Model.{Model, priorityOf}
 use Rattle.schedule.specs.Plan.{Plan, active}
 use Rattle.schedule.specs.Checks.{waits}
+use Rattle.schedule.specs.declared.RuleRefusal.{RuleRefusal}
 use Rattle.schedule.specs.Numbers.{ruleNumber}
 use Rattle.laws.proofs.Tests.{T-all}
 use Rattle.laws.proofs.Counting.{T-ext, T-false}
@@ -22,14 +23,14 @@ use Rattle.laws.proofs.Words.{bit-high, bit-wordOf, word-ext, wordOf-ext, wordO
 use Rattle.schedule.specs.Opened.{check-rules}
 use Rattle.laws.proofs.Named.{rule-number}
 use Rattle.bits.proofs.WordLaws.{bit-zero}
-use Rattle.checks.specs.declared.tick.TickRule.{TickRule}
+use Rattle.schedule.specs.declared.TickRule.{TickRule}
 use Rattle.checks.specs.Windows.{openOf, without}
 use Rattle.tables.specs.declared.ranking.Order.{Order}
 use Rattle.tables.specs.Columns.{amongActivities}
 use Rattle.tables.specs.Ranking.{ranks, rankingOf}
 use Rattle.tables.proofs.TableLaws.{by-table, by-beyond, among-all}
 use Rattle.checks.specs.Tables.{ends, froms, brokenMask, any, waitingMask, rankMask, outranking, outrankingOf}
-use Rattle.checks.specs.Tables.{tickRule, tickName, breakingOf, Tabulated, Ranked}
+use Rattle.checks.specs.Tables.{tickRule, breakingOf, Tabulated, Ranked}
 use Rattle.checks.proofs.WaitLaws.{waits-when, idle-mask, preemption-mask, tie-mask, cores-mask}
 
 -- where nothing waits, nothing breaks a rule that is tried of the waiting
@@ -126,22 +127,16 @@ tick-mask TickRule.Tie m p tables masks h r t =
     ∙ sym (tie-mask m p t (h .few))
 
 -- a rule of ticks is tried at H ticks and at no more than 32 columns
-pub tick-rows : (rule : TickRule) (m : Model) (p : Plan) → tickRule rule m p .rows ≡ m .horizon
+pub tick-shape : (rule : TickRule) (m : Model) (p : Plan)
+    → (tickRule rule m p .rows ≡ m .horizon) × (m .activities ≤ 32 → tickRule rule m p .columns ≤ 32)
 unfolding check-rules
-tick-rows TickRule.Cores m p = refl
-tick-rows TickRule.Preemption m p = refl
-tick-rows TickRule.Idle m p = refl
-tick-rows TickRule.Tie m p = refl
+tick-shape TickRule.Cores m p = (refl, λ h. omega arith)
+tick-shape TickRule.Preemption m p = (refl, λ h. h)
+tick-shape TickRule.Idle m p = (refl, λ h. h)
+tick-shape TickRule.Tie m p = (refl, λ h. h)
 
-pub tick-columns : (rule : TickRule) (m : Model) (p : Plan) → m .activities ≤ 32 → tickRule rule m p .columns ≤ 32
-unfolding check-rules
-tick-columns TickRule.Cores m p h = omega arith
-tick-columns TickRule.Preemption m p h = h
-tick-columns TickRule.Idle m p h = h
-tick-columns TickRule.Tie m p h = h
-
-pub tick-number : (rule : TickRule) (m : Model) (p : Plan) → ruleNumber (tickName rule) ≡ tickRule rule m p .number
-tick-number rule m p = rule-number m p (tickName rule)
+pub tick-number : (rule : TickRule) (m : Model) (p : Plan) → ruleNumber (RuleRefusal.Tick rule) ≡ tickRule rule m p .number
+tick-number rule m p = rule-number m p (RuleRefusal.Tick rule)
 
 -- the mask of a tick, from the word, the cores and the open windows that the code reads
 pub tick-read : (rule : TickRule) (m : Model) (p : Plan) (tables : List (List ℕ)) (masks : List ℕ) → Tabulated m p tables

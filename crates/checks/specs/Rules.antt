@@ -7,26 +7,17 @@ use mathlib.Core.Path.{_≡_}
 use lib.Dec.{leb, ltb}
 use lib.ListN.{getD}
 use Rattle.schedule.specs.Bounded.{all, bit, wordOf, _⇒_}
-use Rattle.schedule.specs.Rule.{Rule, rulesNamed}
+use Rattle.schedule.specs.Rule.{Rule}
 use Rattle.schedule.specs.Model.{Model}
 use Rattle.schedule.specs.Plan.{Plan, active}
-use Rattle.schedule.specs.Checks.{ruleOf, plainRules, strictRules}
+use Rattle.schedule.specs.Checks.{ruleOf, plainOrder, strictOrder, plainRules, strictRules}
 use Rattle.schedule.specs.Answers.{plainChecks, strictChecks}
+use Rattle.schedule.specs.declared.ActivityRule.{ActivityRule}
 use Rattle.schedule.specs.declared.RuleRefusal.{RuleRefusal}
-use Rattle.checks.specs.declared.activity.ActivityRule.{ActivityRule}
-use Rattle.checks.specs.declared.tick.TickRule.{TickRule}
-use Rattle.checks.specs.Tables.{tickRule, Tabulated}
-
-abbrev pub activityName : ActivityRule → RuleRefusal
-activityName ActivityRule.Window = RuleRefusal.Window
-activityName ActivityRule.Count = RuleRefusal.Count
-activityName ActivityRule.Deadline = RuleRefusal.Deadline
-activityName ActivityRule.Temporal = RuleRefusal.Temporal
-activityName ActivityRule.Data = RuleRefusal.Data
-activityName ActivityRule.Eligible = RuleRefusal.Eligible
+use Rattle.checks.specs.Tables.{Tabulated}
 
 abbrev pub activityRule : ActivityRule → Model → Plan → Rule
-activityRule rule = ruleOf (activityName rule)
+activityRule rule = ruleOf (RuleRefusal.Activity rule)
 
 -- rule 21's last part: no active tick of a lies outside its window
 unfoldable pub noneOutside : Model → Plan → ℕ → Bool
@@ -42,12 +33,10 @@ pub record Counted (m : Model) (p : Plan) (outside : ℕ) (tables : List (List �
   pub tabulated : Tabulated m p tables
   pub strays : (a : ℕ) → a < m .activities → bit outside a ≡ not (noneOutside m p a)
 
--- the rules of activities and of ticks that a list names, in its order
-abbrev pub activityRules : List ActivityRule → Model → Plan → List Rule
-activityRules order m p = rulesNamed (λ rule. activityRule rule m p) order
-
-abbrev pub tickRules : List TickRule → Model → Plan → List Rule
-tickRules order m p = rulesNamed (λ rule. tickRule rule m p) order
+-- the order of the plain or the strict check
+abbrev pub orderOf : Bool → List RuleRefusal
+orderOf true = strictOrder
+orderOf false = plainOrder
 
 -- the rules of the plain or the strict check on a plan, and on two byte strings
 abbrev pub gridRules : Bool → Model → Plan → List Rule

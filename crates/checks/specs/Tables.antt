@@ -12,11 +12,11 @@ use Rattle.schedule.specs.Model.{Model, priorityOf, temporally, byData}
 use Rattle.schedule.specs.Plan.{Plan}
 use Rattle.schedule.specs.Rule.{Rule}
 use Rattle.schedule.specs.Checks.{countOf, efe, waits, ruleOf}
+use Rattle.schedule.specs.declared.TickRule.{TickRule}
 use Rattle.schedule.specs.declared.RuleRefusal.{RuleRefusal}
 use Rattle.tables.specs.declared.ranking.Order.{Order}
 use Rattle.tables.specs.Columns.{TableOf}
 use Rattle.tables.specs.Ranking.{ranks, rankingOf}
-use Rattle.checks.specs.declared.tick.TickRule.{TickRule}
 use Rattle.checks.specs.Windows.{without}
 
 -- the tables by what they hold
@@ -67,14 +67,8 @@ unfoldable pub outrankingOf : List ℕ → ℕ → ℕ
 outrankingOf masks word = outranking 32 (λ a. getD masks a 0) word
 
 -- rules 28 to 31 by name
-abbrev pub tickName : TickRule → RuleRefusal
-tickName TickRule.Cores = RuleRefusal.Cores
-tickName TickRule.Preemption = RuleRefusal.Preemption
-tickName TickRule.Idle = RuleRefusal.Idle
-tickName TickRule.Tie = RuleRefusal.Tie
-
 abbrev pub tickRule : TickRule → Model → Plan → Rule
-tickRule rule = ruleOf (tickName rule)
+tickRule rule = ruleOf (RuleRefusal.Tick rule)
 
 -- the activities that break one of these rules at a tick with this word, where the open ones may wait
 abbrev pub breakingOf : TickRule → ℕ → ℕ → ℕ → List ℕ → ℕ

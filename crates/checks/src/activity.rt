@@ -10,6 +10,7 @@ use crate::refused;
 use numbers::less;
 use records::Pass;
 use records::model::Activity;
+use schedule::ActivityRule;
 use schedule::RuleRefusal;
 use ticks::on_time;
 use ticks::passed;
@@ -26,24 +27,7 @@ ghost use Rattle.schedule.specs.Plan.{plan, planTiming};
 ghost use Rattle.schedule.specs.Checks.{window};
 ghost use Rattle.records.specs.Reads.{passNumbers};
 ghost use Rattle.checks.specs.Tables.{brokenMask};
-ghost use Rattle.checks.specs.Rules.{activityName, activityRule};
-ghost use Rattle.checks.specs.Rules.{earlyFrom, noneOutside, Counted};
-
-// The rules that are tried at activities.
-pub(crate) enum ActivityRule {
-    // 21 "window: start < end ≤ H, bits set at start and end − 1, none outside"
-    Window,
-    // 22 "count within the duration range"
-    Count,
-    // 23 "a thread with a period" has "end ≤ release + period"
-    Deadline,
-    // 25 "start ≥ end + delay of each temporal predecessor B"
-    Temporal,
-    // 26 "start ≥ end of each data predecessor B"
-    Data,
-    // 27 "start ≥ efe"
-    Eligible,
-}
+ghost use Rattle.checks.specs.Rules.{activityRule, earlyFrom, noneOutside, Counted};
 
 // 21 at activity a, where a word says which activities are active outside their window.
 fn window_holds(s: &[u8], r: &[u8], a: Activity, outside: u32) -> bool
@@ -164,20 +148,6 @@ fn breaking(
     }
 }
 
-// The rule's name in an answer.
-fn name(rule: ActivityRule) -> RuleRefusal
-    ensures { λ r. ⌜ r ≡ activityName rule ⌝ }
-{
-    match rule {
-        ActivityRule::Window => RuleRefusal::Window,
-        ActivityRule::Count => RuleRefusal::Count,
-        ActivityRule::Deadline => RuleRefusal::Deadline,
-        ActivityRule::Temporal => RuleRefusal::Temporal,
-        ActivityRule::Data => RuleRefusal::Data,
-        ActivityRule::Eligible => RuleRefusal::Eligible,
-    }
-}
-
 // A rule tried at every activity: "lowest A first, then lowest B".
 pub(crate) fn over_activities(
     rule: ActivityRule,
@@ -196,7 +166,7 @@ pub(crate) fn over_activities(
         let a = Activity(number);
         let b = bits::lowest(breaking(rule, s, r, outside, tables, a));
         if b < 32 {
-            return refused(name(rule), number as u32, b);
+            return refused(RuleRefusal::Activity(rule), number as u32, b);
         }
         number += 1;
     }

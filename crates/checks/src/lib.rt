@@ -5,28 +5,28 @@ mod page;
 mod tick;
 mod windows;
 
-use activity::ActivityRule;
 use activity::over_activities;
 use page::Tables;
 use records::Pass;
 use records::model::ModelRead;
 use records::plan::PlanRead;
+use schedule::ActivityRule;
 use schedule::Place;
 use schedule::Refusal;
 use schedule::RuleRefusal;
+use schedule::TickRule;
 use schedule::Verdict;
-use tick::TickRule;
 use tick::over_ticks;
 ghost use mathlib.Core.Path.{_≡_};
 ghost use mathlib.Core.Option.{some};
 ghost use lib.ListN.{length};
-ghost use Rattle.schedule.specs.Rule.{firstBreak};
+ghost use Rattle.schedule.specs.Rule.{break, firstBreak};
 ghost use Rattle.schedule.specs.Model.{model, Formed};
 ghost use Rattle.schedule.specs.Plan.{plan};
+ghost use Rattle.schedule.specs.Checks.{ruleOf};
 ghost use Rattle.schedule.specs.Answers.{answer, figures, plainVerdict, strictVerdict};
 ghost use Rattle.schedule.specs.Numbers.{ruleNumber, verdictNumbers};
-ghost use Rattle.checks.specs.Tables.{Tabulated};
-ghost use Rattle.checks.specs.Rules.{Counted, activityRules, tickRules, gridRules, checksOf};
+ghost use Rattle.checks.specs.Rules.{Counted, orderOf, gridRules, checksOf};
 ghost use Rattle.records.specs.Reads.{passNumbers};
 
 // A rule broken at a place.
@@ -36,78 +36,52 @@ fn refused(why: RuleRefusal, a: u32, b: u32) -> Pass
     Pass::Refused(Refusal::Rule(why, Place { a, b }))
 }
 
-// Rules of activities, "each tried over everything before the next".
-fn activity_rules(
-    order: [ActivityRule; 6],
-    s: &[u8],
-    r: &[u8],
-    outside: u32,
-    tables: &Tables,
-) -> Pass
-    requires { ⌜ length order ≡ 6 ⌝ }
+// A rule tried at each of its places.
+fn over(rule: RuleRefusal, s: &[u8], r: &[u8], outside: u32, tables: &Tables) -> Pass
     requires { ⌜ Counted (model (now s)) (plan (now r)) outside (now tables) ⌝ }
-    ensures { λ x. ⌜ passNumbers x ≡ firstBreak (activityRules order (model (now (s .entry))) (plan (now (r .entry)))) ⌝ }
+    ensures { λ x. ⌜ passNumbers x ≡ break (ruleOf rule (model (now (s .entry))) (plan (now (r .entry)))) ⌝ }
 {
-    let mut k: usize = 0;
-    while k < order.len() {
-        let rule = order[k];
-        let pass = over_activities(rule, s, r, outside, tables);
-        if let Pass::Refused(_) = pass {
-            return pass;
-        }
-        k += 1;
+    match rule {
+        RuleRefusal::Activity(rule) => over_activities(rule, s, r, outside, tables),
+        RuleRefusal::Tick(rule) => over_ticks(rule, s, r, tables),
     }
-    Pass::Holds
 }
 
-// Rules of ticks, likewise.
-fn tick_rules(order: [TickRule; 2], s: &[u8], r: &[u8], tables: &Tables) -> Pass
-    requires { ⌜ length order ≡ 2 ⌝ }
-    requires { ⌜ Tabulated (model (now s)) (plan (now r)) (now tables) ⌝ }
-    ensures { λ x. ⌜ passNumbers x ≡ firstBreak (tickRules order (model (now (s .entry))) (plan (now (r .entry)))) ⌝ }
+// How many rules a check tries: "The plain check ends here; the strict check goes on with 30 and 31."
+fn rules_tried(strict: bool) -> usize
+    ensures { λ n. ⌜ n ≡ length (orderOf strict) ⌝ }
 {
-    let mut k: usize = 0;
-    while k < order.len() {
-        let rule = order[k];
-        let pass = over_ticks(rule, s, r, tables);
-        if let Pass::Refused(_) = pass {
-            return pass;
-        }
-        k += 1;
-    }
-    Pass::Holds
+    if strict { 10 } else { 8 }
 }
 
-// The rules of a check on well-formed records, in order: "The plain check ends here; the strict check goes on with 30 and 31."
+// The rules of a check on well-formed records in their order, "each tried over everything before the next".
 fn grid_rules(s: &[u8], r: &[u8], strict: bool) -> Pass
     requires { ⌜ Formed (model (now s)) ⌝ }
     ensures { λ x. ⌜ passNumbers x ≡ firstBreak (gridRules strict (model (now (s .entry))) (plan (now (r .entry)))) ⌝ }
 {
+    let order = [
+        RuleRefusal::Activity(ActivityRule::Window),
+        RuleRefusal::Activity(ActivityRule::Count),
+        RuleRefusal::Activity(ActivityRule::Deadline),
+        RuleRefusal::Activity(ActivityRule::Temporal),
+        RuleRefusal::Activity(ActivityRule::Data),
+        RuleRefusal::Activity(ActivityRule::Eligible),
+        RuleRefusal::Tick(TickRule::Cores),
+        RuleRefusal::Tick(TickRule::Preemption),
+        RuleRefusal::Tick(TickRule::Idle),
+        RuleRefusal::Tick(TickRule::Tie),
+    ];
+    let n = rules_tried(strict);
     let tables = page::tabulate(s, r);
     let outside = windows::strays(s, r, &tables);
-    let activities = activity_rules(
-        [
-            ActivityRule::Window,
-            ActivityRule::Count,
-            ActivityRule::Deadline,
-            ActivityRule::Temporal,
-            ActivityRule::Data,
-            ActivityRule::Eligible,
-        ],
-        s,
-        r,
-        outside,
-        &tables,
-    );
-    if let Pass::Refused(_) = activities {
-        return activities;
-    }
-    let plain = tick_rules([TickRule::Cores, TickRule::Preemption], s, r, &tables);
-    if let Pass::Refused(_) = plain {
-        return plain;
-    }
-    if strict {
-        return tick_rules([TickRule::Idle, TickRule::Tie], s, r, &tables);
+    let mut k: usize = 0;
+    while k < n {
+        let rule = order[k];
+        let pass = over(rule, s, r, outside, &tables);
+        if let Pass::Refused(_) = pass {
+            return pass;
+        }
+        k += 1;
     }
     Pass::Holds
 }

@@ -6,6 +6,7 @@ use crate::refused;
 use crate::windows;
 use records::Pass;
 use schedule::RuleRefusal;
+use schedule::TickRule;
 use tables::ranking::Order;
 use tables::ranking::masks;
 ghost use mathlib.Core.Path.{_≡_};
@@ -13,24 +14,12 @@ ghost use mathlib.Core.Bool.{cond};
 ghost use lib.Bits.{bitAnd, bitOr};
 ghost use lib.Dec.{eqb, ltb};
 ghost use Rattle.schedule.specs.Bounded.{ones};
-ghost use Rattle.checks.specs.Tables.{outrankingOf, breakingOf, tickName, tickRule};
+ghost use Rattle.checks.specs.Tables.{outrankingOf, breakingOf, tickRule};
 ghost use Rattle.checks.specs.Tables.{Tabulated, Ranked};
 ghost use Rattle.schedule.specs.Rule.{break};
 ghost use Rattle.schedule.specs.Model.{model};
 ghost use Rattle.schedule.specs.Plan.{plan};
 ghost use Rattle.records.specs.Reads.{passNumbers};
-
-// The rules that are tried at ticks.
-pub(crate) enum TickRule {
-    // 28 "at most c ones in the word"
-    Cores,
-    // 29 "with exactly c ones, no waiting B has a priority above an active one's"
-    Preemption,
-    // 30 "with fewer than c ones, nothing waits"
-    Idle,
-    // 31 "with exactly c ones, no waiting B has the priority of an active activity with a larger number"
-    Tie,
-}
 
 // For each activity those that must not wait while it is active: by 29 those of a higher priority, by 31 those of its own
 // priority with a lower number. 28 and 30 compare nobody.
@@ -102,18 +91,6 @@ fn breaking(rule: TickRule, word: u32, cores: u32, opened: u32, masks: &[u32; 32
     }
 }
 
-// The rule's name in an answer.
-fn name(rule: TickRule) -> RuleRefusal
-    ensures { λ r. ⌜ r ≡ tickName rule ⌝ }
-{
-    match rule {
-        TickRule::Cores => RuleRefusal::Cores,
-        TickRule::Preemption => RuleRefusal::Preemption,
-        TickRule::Idle => RuleRefusal::Idle,
-        TickRule::Tie => RuleRefusal::Tie,
-    }
-}
-
 // A rule tried at every tick: "lowest A first, then lowest B".
 pub(crate) fn over_ticks(rule: TickRule, s: &[u8], r: &[u8], tables: &Tables) -> Pass
     requires { ⌜ Tabulated (model (now s)) (plan (now r)) (now tables) ⌝ }
@@ -132,7 +109,7 @@ pub(crate) fn over_ticks(rule: TickRule, s: &[u8], r: &[u8], tables: &Tables) ->
         let word = records::grid::word(grid, t as usize);
         let b = bits::lowest(breaking(rule, word, cores, waitable.word, &outranked));
         if b < 32 {
-            return refused(name(rule), t as u32, b);
+            return refused(RuleRefusal::Tick(rule), t as u32, b);
         }
         t += 1;
     }

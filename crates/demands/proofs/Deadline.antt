@@ -12,6 +12,7 @@ use lib.Dec.{T, eqb, leb, ltb, eqb→eq}
 use lib.IntN.{ℤ, subℕ}
 use lib.ListN.{length, drop}
 use borrow.Author.Tests.{eq-eqb}
+use Rattle.schedule.specs.declared.ActivityRule.{ActivityRule}
 use Rattle.schedule.specs.declared.RuleRefusal.{RuleRefusal}
 use Rattle.schedule.specs.Bounded.{_⇒_, table}
 use Rattle.schedule.specs.Rule.{Rule, Refusal, break, firstBreak}
@@ -140,7 +141,7 @@ module _ (d : Deadline) where
     named-stands formed name t =
         let number = rule-number (model s) (plan r) name ∙ eqb→eq _ 23 t in
         subst (λ (n : RuleRefusal). break (planRuleWith d s r) ≡ break (ruleOf n (model s) (plan r)))
-        (sym (rule-injective name RuleRefusal.Deadline number))
+        (sym (rule-injective name (RuleRefusal.Activity ActivityRule.Deadline) number))
         (rule-same 23 (model s) (planTiming (plan r)) (plan r .end) (agrees formed))
 
     order-stands : Formed (model s) → (names : List RuleRefusal)

@@ -12,6 +12,8 @@ use mathlib.Core.Path.{_≡_, refl, sym, _∙_, ap}
 use lib.Dec.{T}
 use lib.ListN.{length, drop, replicate}
 use borrow.Author.Tests.{ne-eqb}
+use Rattle.schedule.specs.declared.ActivityRule.{ActivityRule}
+use Rattle.schedule.specs.declared.TickRule.{TickRule}
 use Rattle.schedule.specs.declared.RuleRefusal.{RuleRefusal}
 use Rattle.schedule.specs.Rule.{Refusal, firstBreak, Everywhere, AllHold, FirstBroken}
 use Rattle.schedule.specs.Model.{Model, model, modelForm}
@@ -110,32 +112,32 @@ says-plain : (m : Model) (p : Plan) → ((name : RuleRefusal) → T (among name 
     → KeepsPlain m p
 unfolding check-rules
 says-plain m p says = record {
-  window = λ a l. says RuleRefusal.Window tt a 0 l (omega arith);
-  duration = λ a l. says RuleRefusal.Count tt a 0 l (omega arith);
-  deadline = λ a l. says RuleRefusal.Deadline tt a 0 l (omega arith);
-  temporal = says RuleRefusal.Temporal tt;
-  by-data = says RuleRefusal.Data tt;
-  eligible = λ a l. says RuleRefusal.Eligible tt a 0 l (omega arith);
-  cores = λ t l. says RuleRefusal.Cores tt t 0 l (omega arith);
-  priority = says RuleRefusal.Preemption tt;
+  window = λ a l. says (RuleRefusal.Activity ActivityRule.Window) tt a 0 l (omega arith);
+  duration = λ a l. says (RuleRefusal.Activity ActivityRule.Count) tt a 0 l (omega arith);
+  deadline = λ a l. says (RuleRefusal.Activity ActivityRule.Deadline) tt a 0 l (omega arith);
+  temporal = says (RuleRefusal.Activity ActivityRule.Temporal) tt;
+  by-data = says (RuleRefusal.Activity ActivityRule.Data) tt;
+  eligible = λ a l. says (RuleRefusal.Activity ActivityRule.Eligible) tt a 0 l (omega arith);
+  cores = λ t l. says (RuleRefusal.Tick TickRule.Cores) tt t 0 l (omega arith);
+  priority = says (RuleRefusal.Tick TickRule.Preemption) tt;
 }
 
 -- And back, for an order with or without 30 and 31.
 keeps-named : (m : Model) (p : Plan) (names : List RuleRefusal) → KeepsPlain m p
-    → (T (among RuleRefusal.Idle names) → Everywhere (ruleOf RuleRefusal.Idle m p))
-    → (T (among RuleRefusal.Tie names) → Everywhere (ruleOf RuleRefusal.Tie m p))
+    → (T (among (RuleRefusal.Tick TickRule.Idle) names) → Everywhere (ruleOf (RuleRefusal.Tick TickRule.Idle) m p))
+    → (T (among (RuleRefusal.Tick TickRule.Tie) names) → Everywhere (ruleOf (RuleRefusal.Tick TickRule.Tie) m p))
     → (name : RuleRefusal) → T (among name names) → Everywhere (ruleOf name m p)
 unfolding check-rules
-keeps-named m p names k idle tie RuleRefusal.Window _ = λ a _ l _. k .window a l
-keeps-named m p names k idle tie RuleRefusal.Count _ = λ a _ l _. k .duration a l
-keeps-named m p names k idle tie RuleRefusal.Deadline _ = λ a _ l _. k .deadline a l
-keeps-named m p names k idle tie RuleRefusal.Temporal _ = k .temporal
-keeps-named m p names k idle tie RuleRefusal.Data _ = k .by-data
-keeps-named m p names k idle tie RuleRefusal.Eligible _ = λ a _ l _. k .eligible a l
-keeps-named m p names k idle tie RuleRefusal.Cores _ = λ t _ l _. k .cores t l
-keeps-named m p names k idle tie RuleRefusal.Preemption _ = k .priority
-keeps-named m p names k idle tie RuleRefusal.Idle t = idle t
-keeps-named m p names k idle tie RuleRefusal.Tie t = tie t
+keeps-named m p names k idle tie (RuleRefusal.Activity ActivityRule.Window) _ = λ a _ l _. k .window a l
+keeps-named m p names k idle tie (RuleRefusal.Activity ActivityRule.Count) _ = λ a _ l _. k .duration a l
+keeps-named m p names k idle tie (RuleRefusal.Activity ActivityRule.Deadline) _ = λ a _ l _. k .deadline a l
+keeps-named m p names k idle tie (RuleRefusal.Activity ActivityRule.Temporal) _ = k .temporal
+keeps-named m p names k idle tie (RuleRefusal.Activity ActivityRule.Data) _ = k .by-data
+keeps-named m p names k idle tie (RuleRefusal.Activity ActivityRule.Eligible) _ = λ a _ l _. k .eligible a l
+keeps-named m p names k idle tie (RuleRefusal.Tick TickRule.Cores) _ = λ t _ l _. k .cores t l
+keeps-named m p names k idle tie (RuleRefusal.Tick TickRule.Preemption) _ = k .priority
+keeps-named m p names k idle tie (RuleRefusal.Tick TickRule.Idle) t = idle t
+keeps-named m p names k idle tie (RuleRefusal.Tick TickRule.Tie) t = tie t
 
 -- Rules 21 to 29 hold, as a list, exactly where the plan keeps them as crate schedule, Keeps, writes them out.
 pub plain-keeps : (m : Model) (p : Plan) → AllHold (plainRules m p) ↔ KeepsPlain m p
@@ -153,8 +155,8 @@ strict-keeps m p = (
       let says = named m p strictOrder h in
       record {
         plain = says-plain m p (λ name t. says name (among-front name plainOrder furtherOrder t));
-        idle = says RuleRefusal.Idle tt;
-        tie = says RuleRefusal.Tie tt;
+        idle = says (RuleRefusal.Tick TickRule.Idle) tt;
+        tie = says (RuleRefusal.Tick TickRule.Tie) tt;
       },
   λ k. all-named m p strictOrder (keeps-named m p strictOrder (k .plain) (λ _. k .idle) (λ _. k .tie)),
 )

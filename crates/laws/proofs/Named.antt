@@ -5,6 +5,8 @@ use mathlib.Core.List.{List, [], _∷_, _++_}
 use mathlib.Core.Logic.{_⊎_, inl, inr, _↔_, ⊎-elim}
 use mathlib.Core.Path.{_≡_, refl, sym, subst, ap}
 use lib.Dec.{T, eqb, eqb→eq}
+use Rattle.schedule.specs.declared.ActivityRule.{ActivityRule}
+use Rattle.schedule.specs.declared.TickRule.{TickRule}
 use Rattle.schedule.specs.declared.RuleRefusal.{RuleRefusal}
 use Rattle.schedule.specs.Rule.{Rule, Everywhere, AllHold}
 use Rattle.schedule.specs.Model.{Model}
@@ -68,13 +70,13 @@ module _ (m : Model) (p : Plan) where
   -- a rule has its name's number
   pub rule-number : (name : RuleRefusal) → ruleNumber name ≡ ruleOf name m p .number
   unfolding check-rules
-  rule-number RuleRefusal.Window = refl
-  rule-number RuleRefusal.Count = refl
-  rule-number RuleRefusal.Deadline = refl
-  rule-number RuleRefusal.Temporal = refl
-  rule-number RuleRefusal.Data = refl
-  rule-number RuleRefusal.Eligible = refl
-  rule-number RuleRefusal.Cores = refl
-  rule-number RuleRefusal.Preemption = refl
-  rule-number RuleRefusal.Idle = refl
-  rule-number RuleRefusal.Tie = refl
+  rule-number (RuleRefusal.Activity ActivityRule.Window) = refl
+  rule-number (RuleRefusal.Activity ActivityRule.Count) = refl
+  rule-number (RuleRefusal.Activity ActivityRule.Deadline) = refl
+  rule-number (RuleRefusal.Activity ActivityRule.Temporal) = refl
+  rule-number (RuleRefusal.Activity ActivityRule.Data) = refl
+  rule-number (RuleRefusal.Activity ActivityRule.Eligible) = refl
+  rule-number (RuleRefusal.Tick TickRule.Cores) = refl
+  rule-number (RuleRefusal.Tick TickRule.Preemption) = refl
+  rule-number (RuleRefusal.Tick TickRule.Idle) = refl
+  rule-number (RuleRefusal.Tick TickRule.Tie) = refl

@@ -8,19 +8,14 @@ use mathlib.Core.Path.{_≡_, refl, sym, ap, _∙_}
 use lib.Dec.{eqb}
 use Rattle.schedule.specs.declared.Place.{Place}
 use Rattle.schedule.specs.declared.FormRefusal.{FormRefusal}
+use Rattle.schedule.specs.declared.ActivityRule.{ActivityRule}
+use Rattle.schedule.specs.declared.TickRule.{TickRule}
 use Rattle.schedule.specs.declared.RuleRefusal.{RuleRefusal}
 use Rattle.schedule.specs.declared.RunRefusal.{RunRefusal}
 use Rattle.schedule.specs.declared.Refusal.{Refusal}
 use Rattle.schedule.specs.declared.Verdict.{Verdict}
 use Rattle.schedule.specs.declared.RunVerdict.{RunVerdict}
 use Rattle.schedule.specs.declared.WordAt.{WordAt}
-use Rattle.schedule.specs.declared.FormRefusal.the-variants.{ModelSize, ModelVersion, ModelLimits, ModelFormula}
-use Rattle.schedule.specs.declared.FormRefusal.the-variants.{ThreadRow, ActivityRow, MaskRow, SecondSize}
-use Rattle.schedule.specs.declared.FormRefusal.the-variants.{SecondVersion, SecondCounts, SecondFormula}
-use Rattle.schedule.specs.declared.FormRefusal.the-variants.{ThreadChoice, DurationChoice, WordBits}
-use Rattle.schedule.specs.declared.RuleRefusal.the-variants.{Window, Count, Deadline, Temporal, Data}
-use Rattle.schedule.specs.declared.RuleRefusal.the-variants.{Eligible, Cores, Preemption, Idle, Tie}
-use Rattle.schedule.specs.declared.RunRefusal.the-variants.{Room, Owed, Late, Rows}
 use Rattle.schedule.specs.Rule
 use Rattle.schedule.specs.Checks.{strictOrder}
 use Rattle.schedule.specs.Answers
@@ -37,11 +32,24 @@ undone-injective f g undone x y e = sym (undone x) ∙ ap g e ∙ undone y
 -- the cases of form and of the run; those of the rules are the strict check's
 abbrev forms : List FormRefusal
 forms =
-    ModelSize ∷ ModelVersion ∷ ModelLimits ∷ ModelFormula ∷ ThreadRow ∷ ActivityRow ∷ MaskRow ∷ SecondSize
-    ∷ SecondVersion ∷ SecondCounts ∷ SecondFormula ∷ ThreadChoice ∷ DurationChoice ∷ WordBits ∷ []
+    FormRefusal.ModelSize
+    ∷ FormRefusal.ModelVersion
+    ∷ FormRefusal.ModelLimits
+    ∷ FormRefusal.ModelFormula
+    ∷ FormRefusal.ThreadRow
+    ∷ FormRefusal.ActivityRow
+    ∷ FormRefusal.MaskRow
+    ∷ FormRefusal.SecondSize
+    ∷ FormRefusal.SecondVersion
+    ∷ FormRefusal.SecondCounts
+    ∷ FormRefusal.SecondFormula
+    ∷ FormRefusal.ThreadChoice
+    ∷ FormRefusal.DurationChoice
+    ∷ FormRefusal.WordBits
+    ∷ []
 
 abbrev runs : List RunRefusal
-runs = Room ∷ Owed ∷ Late ∷ Rows ∷ []
+runs = RunRefusal.Room ∷ RunRefusal.Owed ∷ RunRefusal.Late ∷ RunRefusal.Rows ∷ []
 
 -- every refusal that there is, still without its place
 abbrev refusals : List (Place → Refusal)
@@ -52,7 +60,7 @@ refusals =
 
 -- the one of a list that has a number
 abbrev numbered : ℕ → Place → List (Place → Refusal) → Refusal
-numbered number at [] = Refusal.Form ModelSize at
+numbered number at [] = Refusal.Form FormRefusal.ModelSize at
 numbered number at (x ∷ xs) = cond (eqb (refusalNumbers (x at) .number) number) (x at) (numbered number at xs)
 
 -- a refusal from its number and place
@@ -60,38 +68,38 @@ abbrev refusalOf : Rule.Refusal → Refusal
 refusalOf x = numbered (x .number) (record { a = x .A; b = x .B }) refusals
 
 form-undone : (why : FormRefusal) (at : Place) → refusalOf (refusalNumbers (Refusal.Form why at)) ≡ Refusal.Form why at
-form-undone ModelSize at = refl
-form-undone ModelVersion at = refl
-form-undone ModelLimits at = refl
-form-undone ModelFormula at = refl
-form-undone ThreadRow at = refl
-form-undone ActivityRow at = refl
-form-undone MaskRow at = refl
-form-undone SecondSize at = refl
-form-undone SecondVersion at = refl
-form-undone SecondCounts at = refl
-form-undone SecondFormula at = refl
-form-undone ThreadChoice at = refl
-form-undone DurationChoice at = refl
-form-undone WordBits at = refl
+form-undone FormRefusal.ModelSize at = refl
+form-undone FormRefusal.ModelVersion at = refl
+form-undone FormRefusal.ModelLimits at = refl
+form-undone FormRefusal.ModelFormula at = refl
+form-undone FormRefusal.ThreadRow at = refl
+form-undone FormRefusal.ActivityRow at = refl
+form-undone FormRefusal.MaskRow at = refl
+form-undone FormRefusal.SecondSize at = refl
+form-undone FormRefusal.SecondVersion at = refl
+form-undone FormRefusal.SecondCounts at = refl
+form-undone FormRefusal.SecondFormula at = refl
+form-undone FormRefusal.ThreadChoice at = refl
+form-undone FormRefusal.DurationChoice at = refl
+form-undone FormRefusal.WordBits at = refl
 
 rule-undone : (why : RuleRefusal) (at : Place) → refusalOf (refusalNumbers (Refusal.Rule why at)) ≡ Refusal.Rule why at
-rule-undone Window at = refl
-rule-undone Count at = refl
-rule-undone Deadline at = refl
-rule-undone Temporal at = refl
-rule-undone Data at = refl
-rule-undone Eligible at = refl
-rule-undone Cores at = refl
-rule-undone Preemption at = refl
-rule-undone Idle at = refl
-rule-undone Tie at = refl
+rule-undone (RuleRefusal.Activity ActivityRule.Window) at = refl
+rule-undone (RuleRefusal.Activity ActivityRule.Count) at = refl
+rule-undone (RuleRefusal.Activity ActivityRule.Deadline) at = refl
+rule-undone (RuleRefusal.Activity ActivityRule.Temporal) at = refl
+rule-undone (RuleRefusal.Activity ActivityRule.Data) at = refl
+rule-undone (RuleRefusal.Activity ActivityRule.Eligible) at = refl
+rule-undone (RuleRefusal.Tick TickRule.Cores) at = refl
+rule-undone (RuleRefusal.Tick TickRule.Preemption) at = refl
+rule-undone (RuleRefusal.Tick TickRule.Idle) at = refl
+rule-undone (RuleRefusal.Tick TickRule.Tie) at = refl
 
 run-undone : (why : RunRefusal) (at : Place) → refusalOf (refusalNumbers (Refusal.Run why at)) ≡ Refusal.Run why at
-run-undone Room at = refl
-run-undone Owed at = refl
-run-undone Late at = refl
-run-undone Rows at = refl
+run-undone RunRefusal.Room at = refl
+run-undone RunRefusal.Owed at = refl
+run-undone RunRefusal.Late at = refl
+run-undone RunRefusal.Rows at = refl
 
 refusal-undone : (x : Refusal) → refusalOf (refusalNumbers x) ≡ x
 refusal-undone (Refusal.Form why at) = form-undone why at
@@ -151,7 +159,7 @@ unused number absent x e =
 
 -- "The number is never used again" (U11 of 02)
 pub never-24 : (x : Refusal) → ¬ (refusalNumbers x .number ≡ 24)
-never-24 = unused 24 (λ at e. omega (arith, e))
+never-24 = unused _ (λ at e. omega (arith, e))
 
 pub verdict-injective : (x y : Verdict) → verdictNumbers x ≡ verdictNumbers y → x ≡ y
 verdict-injective = undone-injective verdictNumbers verdictOf verdict-undone

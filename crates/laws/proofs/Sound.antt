@@ -4,6 +4,8 @@ use Prim.Native.Nat.{ℕ}
 use mathlib.Core.List.{List, [], _∷_, _++_}
 use mathlib.Core.Logic.{_↔_, Iff·rfl}
 use lib.Dec.{T}
+use Rattle.schedule.specs.declared.ActivityRule.{ActivityRule}
+use Rattle.schedule.specs.declared.TickRule.{TickRule}
 use Rattle.schedule.specs.declared.RuleRefusal.{RuleRefusal}
 use Rattle.schedule.specs.Rule.{Rule}
 use Rattle.schedule.specs.Model.{Model, model, modelForm}
@@ -69,16 +71,16 @@ planForm-sound m r = simp whole (same _ & same _ & same _ & same _ & same _ & sa
 -- the rules of the checks by name, and those of an order
 rule-sound : (name : RuleRefusal) (m : Model) (p : Plan) → Sound (ruleOf name m p)
 unfolding check-rules
-rule-sound RuleRefusal.Window m p = simp whole (same _)
-rule-sound RuleRefusal.Count m p = simp whole (same _)
-rule-sound RuleRefusal.Deadline m p = simp whole (same _)
-rule-sound RuleRefusal.Temporal m p = simp whole (same _)
-rule-sound RuleRefusal.Data m p = simp whole (same _)
-rule-sound RuleRefusal.Eligible m p = simp whole (same _)
-rule-sound RuleRefusal.Cores m p = simp whole (same _)
-rule-sound RuleRefusal.Preemption m p = simp whole (same _)
-rule-sound RuleRefusal.Idle m p = simp whole (same _)
-rule-sound RuleRefusal.Tie m p = simp whole (same _)
+rule-sound (RuleRefusal.Activity ActivityRule.Window) m p = simp whole (same _)
+rule-sound (RuleRefusal.Activity ActivityRule.Count) m p = simp whole (same _)
+rule-sound (RuleRefusal.Activity ActivityRule.Deadline) m p = simp whole (same _)
+rule-sound (RuleRefusal.Activity ActivityRule.Temporal) m p = simp whole (same _)
+rule-sound (RuleRefusal.Activity ActivityRule.Data) m p = simp whole (same _)
+rule-sound (RuleRefusal.Activity ActivityRule.Eligible) m p = simp whole (same _)
+rule-sound (RuleRefusal.Tick TickRule.Cores) m p = simp whole (same _)
+rule-sound (RuleRefusal.Tick TickRule.Preemption) m p = simp whole (same _)
+rule-sound (RuleRefusal.Tick TickRule.Idle) m p = simp whole (same _)
+rule-sound (RuleRefusal.Tick TickRule.Tie) m p = simp whole (same _)
 
 pub rules-sound : (names : List RuleRefusal) (m : Model) (p : Plan) → AllSound (rulesOf names m p)
 rules-sound [] m p = tt

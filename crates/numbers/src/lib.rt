@@ -1,16 +1,19 @@
 // The paper's numbers of the refusals, which answers fill the rows of the report, a little arithmetic of figures and ticks,
 // and a printed digit.
+use schedule::ActivityRule;
 use schedule::FormRefusal;
 use schedule::Numbered;
 use schedule::Refusal;
 use schedule::RuleRefusal;
 use schedule::RunRefusal;
 use schedule::RunVerdict;
+use schedule::TickRule;
 ghost use mathlib.Core.Path.{_≡_};
 ghost use Prim.Native.Nat.{_+_, _-_, _%_, max, min};
 ghost use lib.IntN.{natAbs};
 ghost use Rattle.schedule.specs.Report.{fills, isDash};
 ghost use Rattle.schedule.specs.Lines.{hexDigit};
+ghost use Rattle.schedule.specs.declared.RuleRefusal.{RuleRefusal};
 ghost use Rattle.schedule.specs.Numbers.{formNumber, ruleNumber, runNumber, refusalNumbers, numbersOf, runNumbers};
 
 // 1 to 14.
@@ -35,21 +38,39 @@ fn form_number(why: FormRefusal) -> u32
     }
 }
 
-// 21 to 31.
+// 21 to 27, without 24.
+fn activity_number(rule: ActivityRule) -> u32
+    ensures { λ r. ⌜ r ≡ ruleNumber (RuleRefusal.Activity rule) ⌝ }
+{
+    match rule {
+        ActivityRule::Window => 21,
+        ActivityRule::Count => 22,
+        ActivityRule::Deadline => 23,
+        ActivityRule::Temporal => 25,
+        ActivityRule::Data => 26,
+        ActivityRule::Eligible => 27,
+    }
+}
+
+// 28 to 31.
+fn tick_number(rule: TickRule) -> u32
+    ensures { λ r. ⌜ r ≡ ruleNumber (RuleRefusal.Tick rule) ⌝ }
+{
+    match rule {
+        TickRule::Cores => 28,
+        TickRule::Preemption => 29,
+        TickRule::Idle => 30,
+        TickRule::Tie => 31,
+    }
+}
+
+// Those of the rules.
 fn rule_number(why: RuleRefusal) -> u32
     ensures { λ r. ⌜ r ≡ ruleNumber why ⌝ }
 {
     match why {
-        RuleRefusal::Window => 21,
-        RuleRefusal::Count => 22,
-        RuleRefusal::Deadline => 23,
-        RuleRefusal::Temporal => 25,
-        RuleRefusal::Data => 26,
-        RuleRefusal::Eligible => 27,
-        RuleRefusal::Cores => 28,
-        RuleRefusal::Preemption => 29,
-        RuleRefusal::Idle => 30,
-        RuleRefusal::Tie => 31,
+        RuleRefusal::Activity(rule) => activity_number(rule),
+        RuleRefusal::Tick(rule) => tick_number(rule),
     }
 }
 

@@ -1,18 +1,15 @@
--- Rules tried in the order of their names, and lists of rules one behind the other: a pass that is refused ends the list,
--- one that holds leaves the answer to the rest.
+-- Rules tried in the order of their names: a pass that is refused ends the list, one that holds leaves the answer to the rest.
 -- Assumes nothing.
 use Prim.Native.Nat.{ℕ, _+_, _≤_, _<_}
 use native.Mathlib.Numerals.{add-one}
-use mathlib.Core.List.{List, [], _∷_, _++_}
+use mathlib.Core.List.{List}
 use mathlib.Core.Option.{Option, none}
 use mathlib.Core.Path.{_≡_, sym, ap, _∙_}
 use lib.ListN.{length, drop, getD, drop-of-length-le}
 use lib.Seq.{drop-cons}
 use Rattle.schedule.specs.Rule
 use Rattle.schedule.specs.Rule.{Rule, break, firstBreak, rulesNamed}
-use Rattle.schedule.specs.Numbers.{refusalNumbers}
 use Rattle.schedule.specs.declared.Refusal.{Refusal}
-use Rattle.laws.proofs.FirstBreak.{append-none, append-some}
 use Rattle.records.specs.declared.Pass.{Pass}
 use Rattle.records.specs.Reads.{passNumbers}
 use Rattle.records.proofs.Reading.{orElse, pass-refused, pass-holds, rule-next, rule-end}
@@ -42,13 +39,3 @@ module _ {N : Type 0} (ruleOf : N → Rule) (order : List N) (k : ℕ) (any : N)
 pub order-ends : {N : Type 0} (ruleOf : N → Rule) (order : List N) (k : ℕ) → length order ≤ k → untried ruleOf order k ≡ none
 order-ends {N} ruleOf order k whole =
     ap (λ (l : List N). firstBreak (rulesNamed ruleOf l)) (drop-of-length-le order {i = k} whole) ∙ rule-end
-
--- lists of rules one behind the other
-pub list-stops : (p : Pass) (x : Refusal) (xs ys : List Rule) → p ≡ Pass.Refused x → passNumbers p ≡ firstBreak xs
-    → passNumbers p ≡ firstBreak (xs ++ ys)
-list-stops p x xs ys told e =
-    ap passNumbers told ∙ sym (append-some xs ys (refusalNumbers x) (sym e ∙ ap passNumbers told))
-
-pub list-goes-on : (p : Pass) (xs ys : List Rule) (q : Option Rule.Refusal) → p ≡ Pass.Holds → passNumbers p ≡ firstBreak xs
-    → q ≡ firstBreak ys → q ≡ firstBreak (xs ++ ys)
-list-goes-on p xs ys q told e h = h ∙ sym (append-none xs ys (sym e ∙ ap passNumbers told))

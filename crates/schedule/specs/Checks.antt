@@ -1,4 +1,5 @@
--- "The checks": count, efe, waiting, and rules 21 to 31, each as the paper's statement and as its test.
+-- "The checks": count, efe, waiting, and rules 21 to 31, each as the paper's statement and as its test. 24 is out of the book
+-- (U11 of 02).
 -- Assumes nothing.
 use Prim.Native.Nat.{ℕ, zero, suc, _+_, _-_, _≤_, _<_, max}
 use mathlib.Core.Bool.{Bool, _&&_, not, cond}
@@ -6,6 +7,8 @@ use mathlib.Core.List.{List, [], _∷_, _++_}
 use mathlib.Core.Path.{_≡_}
 use lib.Dec.{T, eqb, leb, ltb}
 use lib.ListN.{getD}
+use Rattle.schedule.specs.declared.ActivityRule.{ActivityRule}
+use Rattle.schedule.specs.declared.TickRule.{TickRule}
 use Rattle.schedule.specs.declared.RuleRefusal.{RuleRefusal}
 use Rattle.schedule.specs.Bounded.{all, count, greatest, ones, _⇒_}
 use Rattle.schedule.specs.Rule.{Rule, rulesNamed}
@@ -164,16 +167,16 @@ rule31 m p = record {
 
 -- the rules by their names
 abbrev pub ruleOf : RuleRefusal → Model → Plan → Rule
-ruleOf RuleRefusal.Window = rule21
-ruleOf RuleRefusal.Count = rule22
-ruleOf RuleRefusal.Deadline = rule23
-ruleOf RuleRefusal.Temporal = rule25
-ruleOf RuleRefusal.Data = rule26
-ruleOf RuleRefusal.Eligible = rule27
-ruleOf RuleRefusal.Cores = rule28
-ruleOf RuleRefusal.Preemption = rule29
-ruleOf RuleRefusal.Idle = rule30
-ruleOf RuleRefusal.Tie = rule31
+ruleOf (RuleRefusal.Activity ActivityRule.Window) = rule21
+ruleOf (RuleRefusal.Activity ActivityRule.Count) = rule22
+ruleOf (RuleRefusal.Activity ActivityRule.Deadline) = rule23
+ruleOf (RuleRefusal.Activity ActivityRule.Temporal) = rule25
+ruleOf (RuleRefusal.Activity ActivityRule.Data) = rule26
+ruleOf (RuleRefusal.Activity ActivityRule.Eligible) = rule27
+ruleOf (RuleRefusal.Tick TickRule.Cores) = rule28
+ruleOf (RuleRefusal.Tick TickRule.Preemption) = rule29
+ruleOf (RuleRefusal.Tick TickRule.Idle) = rule30
+ruleOf (RuleRefusal.Tick TickRule.Tie) = rule31
 
 -- the rules that a list names, in its order
 abbrev pub rulesOf : List RuleRefusal → Model → Plan → List Rule
@@ -182,19 +185,19 @@ rulesOf names m p = rulesNamed (λ name. ruleOf name m p) names
 -- "The plain check ends here": rules 21 to 29, in the order in which they are tried
 abbrev pub plainOrder : List RuleRefusal
 plainOrder =
-    RuleRefusal.Window
-    ∷ RuleRefusal.Count
-    ∷ RuleRefusal.Deadline
-    ∷ RuleRefusal.Temporal
-    ∷ RuleRefusal.Data
-    ∷ RuleRefusal.Eligible
-    ∷ RuleRefusal.Cores
-    ∷ RuleRefusal.Preemption
+    RuleRefusal.Activity ActivityRule.Window
+    ∷ RuleRefusal.Activity ActivityRule.Count
+    ∷ RuleRefusal.Activity ActivityRule.Deadline
+    ∷ RuleRefusal.Activity ActivityRule.Temporal
+    ∷ RuleRefusal.Activity ActivityRule.Data
+    ∷ RuleRefusal.Activity ActivityRule.Eligible
+    ∷ RuleRefusal.Tick TickRule.Cores
+    ∷ RuleRefusal.Tick TickRule.Preemption
     ∷ []
 
 -- "the strict check goes on with 30 and 31"
 abbrev pub furtherOrder : List RuleRefusal
-furtherOrder = RuleRefusal.Idle ∷ RuleRefusal.Tie ∷ []
+furtherOrder = RuleRefusal.Tick TickRule.Idle ∷ RuleRefusal.Tick TickRule.Tie ∷ []
 
 abbrev pub strictOrder : List RuleRefusal
 strictOrder = plainOrder ++ furtherOrder

@@ -1,4 +1,5 @@
--- What it is to keep the rules: each of 21 to 31 with its quantifiers, as the paper writes it. Nothing here computes.
+-- What it is to keep the rules: each of 21 to 31 with its quantifiers, as the paper writes it, but for 24, which is out of the
+-- book (U11 of 02). Nothing here computes.
 -- Assumes nothing.
 use Prim.Native.Nat.{ℕ, _+_, _≤_, _<_}
 use mathlib.Core.Path.{_≡_}

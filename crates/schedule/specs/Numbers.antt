@@ -3,6 +3,8 @@
 -- Assumes nothing.
 use Prim.Native.Nat.{ℕ}
 use Rattle.schedule.specs.declared.FormRefusal.{FormRefusal}
+use Rattle.schedule.specs.declared.ActivityRule.{ActivityRule}
+use Rattle.schedule.specs.declared.TickRule.{TickRule}
 use Rattle.schedule.specs.declared.RuleRefusal.{RuleRefusal}
 use Rattle.schedule.specs.declared.RunRefusal.{RunRefusal}
 use Rattle.schedule.specs.declared.Refusal.{Refusal}
@@ -34,16 +36,16 @@ formNumber FormRefusal.DurationChoice = 13
 formNumber FormRefusal.WordBits = 14
 
 abbrev pub ruleNumber : RuleRefusal → ℕ
-ruleNumber RuleRefusal.Window = 21
-ruleNumber RuleRefusal.Count = 22
-ruleNumber RuleRefusal.Deadline = 23
-ruleNumber RuleRefusal.Temporal = 25
-ruleNumber RuleRefusal.Data = 26
-ruleNumber RuleRefusal.Eligible = 27
-ruleNumber RuleRefusal.Cores = 28
-ruleNumber RuleRefusal.Preemption = 29
-ruleNumber RuleRefusal.Idle = 30
-ruleNumber RuleRefusal.Tie = 31
+ruleNumber (RuleRefusal.Activity ActivityRule.Window) = 21
+ruleNumber (RuleRefusal.Activity ActivityRule.Count) = 22
+ruleNumber (RuleRefusal.Activity ActivityRule.Deadline) = 23
+ruleNumber (RuleRefusal.Activity ActivityRule.Temporal) = 25
+ruleNumber (RuleRefusal.Activity ActivityRule.Data) = 26
+ruleNumber (RuleRefusal.Activity ActivityRule.Eligible) = 27
+ruleNumber (RuleRefusal.Tick TickRule.Cores) = 28
+ruleNumber (RuleRefusal.Tick TickRule.Preemption) = 29
+ruleNumber (RuleRefusal.Tick TickRule.Idle) = 30
+ruleNumber (RuleRefusal.Tick TickRule.Tie) = 31
 
 abbrev pub runNumber : RunRefusal → ℕ
 runNumber RunRefusal.Room = 41

@@ -38,8 +38,8 @@ pub enum FormRefusal {
     WordBits,
 }
 
-// Refusals 21 to 31, the rules of "The checks".
-pub enum RuleRefusal {
+// The rules of "The checks" that are tried at activities: A is an activity. 24 is out of the book (02).
+pub enum ActivityRule {
     // 21 "window: start < end ≤ H, bits set at start and end − 1, none outside"
     Window,
     // 22 "count within the duration range"
@@ -52,6 +52,10 @@ pub enum RuleRefusal {
     Data,
     // 27 "start ≥ efe"
     Eligible,
+}
+
+// Those that are tried at ticks: A is a tick.
+pub enum TickRule {
     // 28 "at most c ones in the word"
     Cores,
     // 29 "with exactly c ones, no waiting B has a priority above an active one's"
@@ -60,6 +64,12 @@ pub enum RuleRefusal {
     Idle,
     // 31 "with exactly c ones, no waiting B has the priority of an active activity with a larger number"
     Tie,
+}
+
+// Refusals 21 to 31: the rule that is broken.
+pub enum RuleRefusal {
+    Activity(ActivityRule),
+    Tick(TickRule),
 }
 
 // Refusals 41 to 43, "From the state of the buffer or run", and 50, of a lent list.

@@ -1,93 +1,131 @@
--- `checks::grid_rules` meets its contract: the first broken rule of the list answers.
--- Assumes nothing.
-use mathlib.Core.Path.{refl}
+-- `checks::grid_rules` meets its contract: the rules tried hold, and those that are left decide. Assumes nothing.
+use Prim.Native.Nat.{_≤_, _<_, _-_}
+use native.Mathlib.Omega.{arith}
+use mathlib.Core.Path.{_≡_, sym, ap, _∙_}
+use lib.ListN.{length}
+use Rattle.schedule.specs.declared.ActivityRule.{ActivityRule}
+use Rattle.schedule.specs.declared.RuleRefusal.{RuleRefusal}
+use Rattle.schedule.specs.Rule.{Rule, break, firstBreak}
 use Rattle.schedule.specs.Model.{model}
 use Rattle.schedule.specs.Plan.{plan}
-use Rattle.schedule.specs.Checks.{plainRules, strictRules}
-use Rattle.checks.proofs.RuleOrder.{activities-stop, ticks-stop, plain-ends, strict-decides}
+use Rattle.schedule.specs.Checks.{ruleOf}
+use Rattle.records.proofs.Orders.{untried, order-stops, order-goes-on, order-ends}
+use Rattle.checks.specs.Rules.{Counted, orderOf, gridRules}
+use Rattle.checks.proofs.RuleOrder.{in-order, no-longer, same-place}
 use borrow.Author.Needs.{needs}
 use Rattle.checks.proofs.grid_rules.Statement.{statement}
 use Rattle.checks.proofs.grid_rules.Tie as tie
 
-tabulate-requires : tie.Need-tabulate-requires
+-- what a place past the order's end would hold
+abbrev first : RuleRefusal
+first = RuleRefusal.Activity ActivityRule.Window
+
+abbrev Inv-loop : tie.InvT-loop
+Inv-loop s r strict order n tables outside k₀ k =
+    (k ≤ n) × (n ≡ length (orderOf strict)) × Counted (model s) (plan r) outside tables
+    × (untried (λ name. ruleOf name (model s) (plan r)) (orderOf strict) k ≡ firstBreak (gridRules strict (model s) (plan r)))
+
+abbrev μ-loop : tie.MeasureT-loop
+μ-loop s r strict order n tables outside k₀ k = n - k
+
+rules-tried-requires : tie.Need-rules-tried-requires Inv-loop μ-loop
+rules-tried-requires c κs = search needs
+
+tabulate-requires : tie.Need-tabulate-requires Inv-loop μ-loop
 tabulate-requires c κs = search needs
 
-strays-requires : tie.Need-strays-requires
+strays-requires : tie.Need-strays-requires Inv-loop μ-loop
 strays-requires c κs = search needs
 
-activity-rules-requires : tie.Need-activity-rules-requires
-activity-rules-requires c κs =
-    (refl, record { tabulated = c .before .before .before .tabulate .ensures; strays = c .before .strays .ensures })
+loop-holds : tie.Need-loop-holds Inv-loop μ-loop
+loop-holds c =
+    let c3 = c .before .before .before in
+    let x = c3 .before .before .before .args in (
+      omega arith,
+      c3 .rules-tried .ensures,
+      record { tabulated = c .before .before .tabulate .ensures; strays = c .strays .ensures },
+      ap firstBreak (in-order (x .strict) (model (x .s .now)) (plan (x .r .now))),
+    )
 
-enum-told : tie.Need-enum-told
+mul-rule : tie.Need-mul-rule Inv-loop μ-loop
+mul-rule c =
+    let l = c .before .loop in
+    let x = c .before .before .before .before .before .before .before .before .args in
+    omega (arith, l .inv .1, no-longer (x .strict), c .loop-test .taken)
+
+array-copy-out-rule : tie.Need-array-copy-out-rule Inv-loop μ-loop
+array-copy-out-rule c =
+    let l = c .before .loop in
+    let x = c .before .before .before .before .before .before .before .before .args in
+    omega (arith, l .inv .1, no-longer (x .strict), c .loop-test .taken)
+
+over-requires : tie.Need-over-requires Inv-loop μ-loop
+over-requires c κs = c .before .before .before .loop .inv .2
+
+enum-told : tie.Need-enum-told Inv-loop μ-loop
 enum-told c = search needs
 
-returns : tie.Need-returns
-unfolding plainRules strictRules
+returns : tie.Need-returns Inv-loop μ-loop
 returns c =
-    let x = c .before .before .before .before .before .before .before .before .before .args in
-    activities-stop (model (x .s .now)) (plan (x .r .now)) _ _ _ (x .strict) _ _ (c .enum-told .given .1)
-    (c .before .before .activity-rules .ensures) refl refl
+    let c5 = c .before .before .before .before .before in
+    let l = c5 .before .loop in
+    let x = c5 .before .before .before .before .before .before .before .before .args in
+    let rules : RuleRefusal → Rule = λ name. ruleOf name (model (x .s .now)) (plan (x .r .now)) in
+    let less : l .k < length (orderOf (x .strict)) = omega (arith, l .inv .1, c5 .loop-test .taken) in
+    order-stops rules (orderOf (x .strict)) (l .k) first less _
+    (c .before .before .over .ensures ∙ ap (λ name. break (rules name)) (same-place (x .strict) (l .k) first less)) _
+    (c .enum-told .given .1)
+    ∙ l .inv .3
 
-enum-told-2 : tie.Need-enum-told-2
+enum-told-2 : tie.Need-enum-told-2 Inv-loop μ-loop
 enum-told-2 c = search needs
 
-tick-rules-requires : tie.Need-tick-rules-requires
-tick-rules-requires c κs = (refl, c .before .before .before .before .before .before .before .tabulate .ensures)
+add-k : tie.Need-add-k Inv-loop μ-loop
+add-k c = omega arith
 
-enum-told-3 : tie.Need-enum-told-3
-enum-told-3 c = search needs
+loop-less : tie.Need-loop-less Inv-loop μ-loop
+loop-less c = omega arith
 
-returns-2 : tie.Need-returns-2
-unfolding plainRules strictRules
-returns-2 c =
-    let c2 = c .before .before in
-    let c6 = c2 .before .before .before .before in
-    let x = c6 .before .before .before .before .before .before .before .args in
-    ticks-stop (model (x .s .now)) (plan (x .r .now)) _ _ _ (c2 .tick-rules .result) (c2 .before .before .enum-told2 .given .1)
-    (c6 .activity-rules .ensures) (c2 .tick-rules .ensures) _ (x .strict) _ (c .enum-told3 .given .1) refl refl
-
-enum-told-4 : tie.Need-enum-told-4
-enum-told-4 c = search needs
-
-tick-rules-requires-2 : tie.Need-tick-rules-requires-2
-tick-rules-requires-2 c κs =
-    let c6 = c .before .before .before .before .before .before in
-    (refl, c6 .before .before .before .before .before .before .tabulate .ensures)
-
-returns-3 : tie.Need-returns-3
-unfolding plainRules strictRules
-returns-3 c =
+loop-again : tie.Need-loop-again Inv-loop μ-loop
+loop-again c =
     let c5 = c .before .before .before .before .before in
-    let c9 = c5 .before .before .before .before in
-    let x = c9 .before .before .before .before .before .before .before .args in
-    strict-decides (model (x .s .now)) (plan (x .r .now)) _ _ _ (c5 .tick-rules .result) (c5 .before .before .enum-told2 .given .1)
-    (c9 .activity-rules .ensures) (c5 .tick-rules .ensures) _ (x .strict) (c .tick-rules2 .result) (c .before .before .if1 .taken)
-    (c .before .before .before .enum-told4 .given .1) (c .tick-rules2 .ensures) refl
+    let l = c5 .before .loop in
+    let x = c5 .before .before .before .before .before .before .before .before .args in
+    let rules : RuleRefusal → Rule = λ name. ruleOf name (model (x .s .now)) (plan (x .r .now)) in
+    let less : l .k < length (orderOf (x .strict)) = omega (arith, l .inv .1, c5 .loop-test .taken) in (
+      omega arith,
+      l .inv .1,
+      l .inv .2,
+      order-goes-on rules (orderOf (x .strict)) (l .k) first less _
+          (c .before .before .over .ensures ∙ ap (λ name. break (rules name)) (same-place (x .strict) (l .k) first less))
+          (c .enum-told2 .given .1)
+          ∙ l .inv .3,
+    )
 
-returns-4 : tie.Need-returns-4
-unfolding plainRules strictRules
-returns-4 c =
-    let c3 = c .before .before .before in
-    let c7 = c3 .before .before .before .before in
-    let x = c7 .before .before .before .before .before .before .before .args in
-    plain-ends (model (x .s .now)) (plan (x .r .now)) _ _ _ (c3 .tick-rules .result) (c3 .before .before .enum-told2 .given .1)
-    (c7 .activity-rules .ensures) (c3 .tick-rules .ensures) (x .strict) (c .if1 .left) (c .before .enum-told4 .given .1) refl
+returns-2 : tie.Need-returns-2 Inv-loop μ-loop
+returns-2 c =
+    let l = c .before .loop in
+    let x = c .before .before .before .before .before .before .before .before .args in
+    let rules : RuleRefusal → Rule = λ name. ruleOf name (model (x .s .now)) (plan (x .r .now)) in
+    sym (order-ends rules (orderOf (x .strict)) (l .k) (omega (arith, l .inv .1, c .loop-test .left))) ∙ l .inv .3
 
 pub grid-rules-spec : {M : Type 1} → statement M
 grid-rules-spec =
     tie.close
     (tie.spec
+    Inv-loop
+    μ-loop
+    rules-tried-requires
     tabulate-requires
     strays-requires
-    activity-rules-requires
+    loop-holds
+    mul-rule
+    array-copy-out-rule
+    over-requires
     enum-told
     returns
     enum-told-2
-    tick-rules-requires
-    enum-told-3
-    returns-2
-    enum-told-4
-    tick-rules-requires-2
-    returns-3
-    returns-4)
+    add-k
+    loop-less
+    loop-again
+    returns-2)

@@ -5,12 +5,11 @@ use mathlib.Core.Option.{some}
 use mathlib.Core.Path.{_≡_, sym, subst, ap, _∙_}
 use Rattle.schedule.specs.Model.{model}
 use Rattle.schedule.specs.Plan.{plan}
-use Rattle.schedule.specs.Numbers.{ruleNumber}
 use Rattle.records.specs.declared.model.Sizes.{Sizes}
 use Rattle.records.specs.Rows.{sizesOf}
 use Rattle.laws.proofs.RowLaws.{ClearTo, clear-start, clear-again, clear-end, clear-stop}
 use Rattle.checks.specs.Rules.{activityRule, Counted}
-use Rattle.checks.proofs.ActivityLaws.{activity-rows, activity-columns, activity-number}
+use Rattle.checks.proofs.ActivityLaws.{activity-shape, activity-number}
 use Rattle.checks.proofs.MaskRow.{row-stops, row-goes-on}
 use borrow.Author.Needs.{needs}
 use Rattle.checks.proofs.activity.over_activities.Statement.{statement}
@@ -37,9 +36,6 @@ breaking-requires c κs = let l = c .before .loop in (l .inv .2, omega (arith, l
 lowest-requires : tie.Need-lowest-requires Inv-loop μ-loop
 lowest-requires c κs = search needs
 
-name-requires : tie.Need-name-requires Inv-loop μ-loop
-name-requires c κs = search needs
-
 cast-refused : tie.Need-cast-refused Inv-loop μ-loop
 cast-refused c = search needs
 
@@ -48,8 +44,8 @@ refused-requires c κs = search needs
 
 returns : tie.Need-returns Inv-loop μ-loop
 returns c =
-    let c4 = c .before .before .before .before in
-    let c5 = c4 .before in
+    let c3 = c .before .before .before in
+    let c5 = c3 .before in
     let c6 = c5 .before in
     let c10 = c6 .before .before .before .before in
     let x = c10 .args in
@@ -57,13 +53,13 @@ returns c =
     let m = model (x .s .now) in
     let p = plan (x .r .now) in
     c .refused .ensures
-    ∙ ap (λ (k : ℕ). some (record { number = k; A = l .number; B = c .before .before .before .lowest .result }))
-    (ap ruleNumber (c .before .name .ensures) ∙ activity-number (x .rule) m p)
+    ∙ ap (λ (k : ℕ). some (record { number = k; A = l .number; B = c .before .before .lowest .result }))
+    (activity-number (x .rule) m p)
     ∙ sym (clear-stop (activityRule (x .rule) m p) (l .number) _ (l .inv .3)
-    (omega (arith, activity-rows (x .rule) m p, l .inv .1, c5 .loop-test .taken))
-    (row-stops (activityRule (x .rule) m p) (l .number) _ _ (activity-columns (x .rule) m p (l .inv .2 .tabulated .few))
-    (c4 .breaking .ensures)
-    (c .before .before .before .lowest .ensures) (c .before .before .if1 .taken)))
+    (omega (arith, activity-shape (x .rule) m p .0, l .inv .1, c5 .loop-test .taken))
+    (row-stops (activityRule (x .rule) m p) (l .number) _ _ (activity-shape (x .rule) m p .1 (l .inv .2 .tabulated .few))
+    (c3 .breaking .ensures)
+    (c .before .before .lowest .ensures) (c .before .if1 .taken)))
 
 add-number : tie.Need-add-number Inv-loop μ-loop
 add-number c = omega arith
@@ -82,7 +78,7 @@ loop-again c =
       l .inv .1,
       l .inv .2,
       clear-again (activityRule (x .rule) m p) (l .number) (l .inv .3)
-          (row-goes-on (activityRule (x .rule) m p) (l .number) _ _ (activity-columns (x .rule) m p (l .inv .2 .tabulated .few))
+          (row-goes-on (activityRule (x .rule) m p) (l .number) _ _ (activity-shape (x .rule) m p .1 (l .inv .2 .tabulated .few))
           (c .before .before .breaking .ensures)
           (c .before .lowest .ensures) (c .if1 .left)),
     )
@@ -92,7 +88,7 @@ returns-2 c =
     let x = c .before .before .before .before .before .args in
     let l = c .before .loop in
     let r = activityRule (x .rule) (model (x .s .now)) (plan (x .r .now)) in
-    let whole : l .number ≡ r .rows = omega (arith, activity-rows (x .rule) (model (x .s .now)) (plan (x .r .now)), l .inv .1) in
+    let whole : l .number ≡ r .rows = omega (arith, activity-shape (x .rule) (model (x .s .now)) (plan (x .r .now)) .0, l .inv .1) in
     sym (clear-end r (subst (ClearTo r) whole (l .inv .3)))
 
 pub over-activities-spec : {M : Type 1} → statement M
@@ -105,7 +101,6 @@ over-activities-spec =
     loop-holds
     breaking-requires
     lowest-requires
-    name-requires
     cast-refused
     refused-requires
     returns

@@ -2,7 +2,7 @@
 -- Assumes nothing.
 use mathlib.Core.Path.{sym, subst}
 use Rattle.schedule.specs.Model.{model}
-use Rattle.checks.specs.declared.tick.TickRule.{TickRule}
+use Rattle.schedule.specs.declared.TickRule.{TickRule}
 use Rattle.checks.specs.Tables.{Ranked}
 use borrow.Author.Needs.{needs}
 use Rattle.checks.proofs.tick.outranked_by.Statement.{statement}

@@ -5,7 +5,6 @@ use mathlib.Core.Option.{some}
 use mathlib.Core.Path.{_≡_, sym, subst, ap, _∙_}
 use Rattle.schedule.specs.Model.{model}
 use Rattle.schedule.specs.Plan.{plan}
-use Rattle.schedule.specs.Numbers.{ruleNumber}
 use Rattle.records.specs.declared.model.Sizes.{Sizes}
 use Rattle.records.specs.Rows.{sizesOf}
 use Rattle.laws.proofs.RowLaws.{ClearTo, clear-start, clear-again, clear-end, clear-stop}
@@ -14,7 +13,7 @@ use Rattle.ticks.specs.Kept.{Stands}
 use Rattle.ticks.proofs.KeptLaws.{stands-unknown, stands-on}
 use Rattle.checks.specs.Tables.{ends, froms, tickRule, Tabulated, Ranked}
 use Rattle.checks.specs.Windows.{openOf}
-use Rattle.checks.proofs.TickLaws.{tick-read, tick-rows, tick-columns, tick-number}
+use Rattle.checks.proofs.TickLaws.{tick-read, tick-shape, tick-number}
 use Rattle.checks.proofs.MaskRow.{row-stops, row-goes-on}
 use borrow.Author.Needs.{needs}
 use Rattle.checks.proofs.tick.over_ticks.Statement.{statement}
@@ -86,39 +85,36 @@ breaking-requires c κs = search needs
 lowest-requires : tie.Need-lowest-requires Inv-loop μ-loop
 lowest-requires c κs = search needs
 
-name-requires : tie.Need-name-requires Inv-loop μ-loop
-name-requires c κs = search needs
-
 cast-refused : tie.Need-cast-refused Inv-loop μ-loop
 cast-refused c =
-    let c9 = c .before .before .before .before .before .before .before .before .before in
-    omega (arith, c9 .loop-test .taken, c9 .before .before .before .before .before .struct-known2 .given)
+    let c8 = c .before .before .before .before .before .before .before .before in
+    omega (arith, c8 .loop-test .taken, c8 .before .before .before .before .before .struct-known2 .given)
 
 refused-requires : tie.Need-refused-requires Inv-loop μ-loop
 refused-requires c κs = search needs
 
 returns : tie.Need-returns Inv-loop μ-loop
 returns c =
-    let c4 = c .before .before .before .before in
-    let c7 = c4 .before .before .before in
-    let c10 = c7 .before .before .before in
-    let l = c10 .before .loop in
-    let x = c10 .before .before .before .before .before .before .before .before .before .before .args in
+    let c3 = c .before .before .before in
+    let c6 = c3 .before .before .before in
+    let c9 = c6 .before .before .before in
+    let l = c9 .before .loop in
+    let x = c9 .before .before .before .before .before .before .before .before .before .before .args in
     let m = model (x .s .now) in
     let p = plan (x .r .now) in
     let mask =
     tick-read (x .rule) m p (x .tables .now) _ (l .inv .4) (l .inv .7) (l .t) _ _ _ _ _
-    (c4 .breaking .ensures)
-    (word-read (x .r .now) _ (l .t) _ (c10 .before .before .before .words .ensures) (c4 .before .before .word .ensures))
-    (l .inv .3) (c7 .at .ensures .0) (l .inv .2) in
-    let few = tick-columns (x .rule) m p (l .inv .4 .few) in
+    (c3 .breaking .ensures)
+    (word-read (x .r .now) _ (l .t) _ (c9 .before .before .before .words .ensures) (c3 .before .before .word .ensures))
+    (l .inv .3) (c6 .at .ensures .0) (l .inv .2) in
+    let few = tick-shape (x .rule) m p .1 (l .inv .4 .few) in
     c .refused .ensures
-    ∙ ap (λ (k : ℕ). some (record { number = k; A = l .t; B = c .before .before .before .lowest .result }))
-    (ap ruleNumber (c .before .name .ensures) ∙ tick-number (x .rule) m p)
+    ∙ ap (λ (k : ℕ). some (record { number = k; A = l .t; B = c .before .before .lowest .result }))
+    (tick-number (x .rule) m p)
     ∙ sym (clear-stop (tickRule (x .rule) m p) (l .t) _ (l .inv .5)
-    (omega (arith, tick-rows (x .rule) m p, l .inv .1, c10 .loop-test .taken))
-    (row-stops (tickRule (x .rule) m p) (l .t) _ _ few mask (c .before .before .before .lowest .ensures)
-    (c .before .before .if1 .taken)))
+    (omega (arith, tick-shape (x .rule) m p .0, l .inv .1, c9 .loop-test .taken))
+    (row-stops (tickRule (x .rule) m p) (l .t) _ _ few mask (c .before .before .lowest .ensures)
+    (c .before .if1 .taken)))
 
 add-t : tie.Need-add-t Inv-loop μ-loop
 add-t c =
@@ -141,7 +137,7 @@ loop-again c =
     (c .before .before .breaking .ensures)
     (word-read (x .r .now) _ (l .t) _ (c9 .before .before .words .ensures) (c .before .before .before .before .word .ensures))
     (l .inv .3) (c5 .at .ensures .0) (l .inv .2) in
-    let few = tick-columns (x .rule) m p (l .inv .4 .few) in (
+    let few = tick-shape (x .rule) m p .1 (l .inv .4 .few) in (
       omega arith,
       l .inv .1,
       l .inv .2,
@@ -158,7 +154,7 @@ returns-2 c =
     let l = c .before .loop in
     let x = c .before .before .before .before .before .before .before .before .before .before .args in
     let r = tickRule (x .rule) (model (x .s .now)) (plan (x .r .now)) in
-    let whole : l .t ≡ r .rows = omega (arith, tick-rows (x .rule) (model (x .s .now)) (plan (x .r .now)), l .inv .1) in
+    let whole : l .t ≡ r .rows = omega (arith, tick-shape (x .rule) (model (x .s .now)) (plan (x .r .now)) .0, l .inv .1) in
     sym (clear-end r (subst (ClearTo r) whole (l .inv .5)))
 
 pub over-ticks-spec : {M : Type 1} → statement M
@@ -182,7 +178,6 @@ over-ticks-spec =
     word-requires
     breaking-requires
     lowest-requires
-    name-requires
     cast-refused
     refused-requires
     returns
