@@ -6,8 +6,9 @@ use native.Mathlib.Omega.{arith}
 use mathlib.Core.Bool.{false≢true}
 use mathlib.Core.List.{List, [], _∷_, _++_}
 use mathlib.Core.Logic.{Iff·rfl}
-use mathlib.Core.Path.{_≡_, sym, ap, _∙_}
+use mathlib.Core.Path.{_≡_, refl, sym, ap, _∙_}
 use borrow.Author.Tests.{eq-eqb}
+use Rattle.schedule.specs.declared.ActivityRule.{ActivityRule}
 use Rattle.schedule.specs.declared.RuleRefusal.{RuleRefusal}
 use Rattle.schedule.specs.declared.Refusal.{Refusal}
 use Rattle.schedule.specs.Rule.{Rule, firstBreak}
@@ -15,6 +16,7 @@ use Rattle.schedule.specs.Model.{Model, model, modelForm}
 use Rattle.schedule.specs.Plan.{Plan, plan, planForm}
 use Rattle.schedule.specs.Checks.{rule21, rulesOf, plainOrder, strictOrder, plainRules, strictRules}
 use Rattle.schedule.specs.Answers.{answer, figures, plainChecks, strictChecks, plainVerdict, strictVerdict}
+use Rattle.schedule.specs.Opened.{check-rules}
 use Rattle.laws.proofs.FirstBreak.{Sound, AllSound, append-same, implied-rule}
 use Rattle.laws.proofs.Named.{rule-number}
 use Rattle.laws.proofs.NumbersLaws.{never-24}
@@ -24,7 +26,24 @@ use Rattle.laws.proofs.Sound.{rules-sound, plainChecks-sound, strictChecks-soun
 use Rattle.laws.proofs.Tests.{tests}
 use Rattle.laws.proofs.VerdictLaws.{answer-refused}
 use Rattle.laws.proofs.Windows.{window-span}
-use Rattle.demands.specs.Rule24.{rule24, formerPlain, formerStrict, verdictBy, CannotBreak24, AsBefore, Not24, NeverUsed}
+use Rattle.demands.specs.Rule24.{
+  rule24,
+  formerPlain,
+  formerStrict,
+  verdictBy,
+  CannotBreak24,
+  StillKept,
+  AsBefore,
+  TakenOut,
+  Not24,
+  NeverUsed,
+}
+
+-- ---- the lists
+
+pub taken-out : (m : Model) (p : Plan) → TakenOut m p
+unfolding check-rules plainRules strictRules rule24 formerPlain formerStrict
+taken-out m p = record { plain-before = refl; plain-now = refl; strict-before = refl; strict-now = refl }
 
 -- ---- the rule
 
@@ -32,7 +51,12 @@ pub cannot-break-24 : CannotBreak24
 unfolding rule21 rule24
 cannot-break-24 m p a window = window-span m p a window
 
-rule24-sound : (m : Model) (p : Plan) → Sound (rule24 m p)
+pub still-kept : StillKept
+unfolding rule21 rule24
+still-kept m p keeps a _ l _ = cannot-break-24 m p a (keeps .window a l)
+
+-- its test decided its statement
+pub rule24-sound : (m : Model) (p : Plan) → Sound (rule24 m p)
 unfolding rule24
 rule24-sound m p a b = simp tests Iff·rfl
 
@@ -40,7 +64,7 @@ rule24-sound m p a b = simp tests Iff·rfl
 
 -- 21, 22 and 23, behind which it stood
 abbrev front : List RuleRefusal
-front = RuleRefusal.Window ∷ RuleRefusal.Count ∷ RuleRefusal.Deadline ∷ []
+front = RuleRefusal.Activity ActivityRule.Window ∷ RuleRefusal.Activity ActivityRule.Count ∷ RuleRefusal.Activity ActivityRule.Deadline ∷ []
 
 -- there it changes no first break, nor behind the form rules of both records
 without-24 : (m : Model) (p : Plan) (after : List Rule)

@@ -1,5 +1,5 @@
--- Other ways to change the book that are nearly right, each with a literal plan for S on which the checks would answer
--- otherwise than they do, and did with 24. One table with one truth about it; the values are worked out by hand.
+-- Other ways to take 24 out, or to keep it, that are nearly right, each with a literal plan for S on which the plain check
+-- would answer otherwise than it does, and did. One table with one truth about it; the values are worked out by hand.
 -- Assumes nothing.
 use Prim.Native.Nat.{ℕ, _+_, _<_}
 use mathlib.Core.List.{List, [], _∷_, map}
@@ -56,7 +56,8 @@ number-used-again m p =
 
 -- ---- the table
 
--- The rules of another book, and a plan for S: what is right of it, by both checks, and what the other book would answer.
+-- The rules of another book, and a plan for S: what is right of it, by both checks, and what the plain check would answer by
+-- the other book.
 pub record Case : Type 1 where
   pub rules : Model → Plan → List Rule
   pub plan : List ℕ

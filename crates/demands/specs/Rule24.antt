@@ -1,20 +1,22 @@
--- Rule 24, which U11 of 02 took out of the book: what it said, the two checks as they were with it, and what is to hold of
--- the rule, of the verdicts and of the number.
+-- Rule 24, which U11 of 02 took out of the book: what it said, the two checks with it in its former place, and what is to hold
+-- of the rule, of the verdicts and of the number.
 -- Assumes nothing.
 use Prim.Native.Nat.{ℕ, _+_, _≤_}
-use mathlib.Core.List.{List, [], _∷_, _++_}
+use mathlib.Core.List.{List, [], _∷_, _++_, map}
 use mathlib.Core.Path.{_≡_}
 use lib.Dec.{leb}
 use Rattle.schedule.specs.declared.Refusal.{Refusal}
 use Rattle.schedule.specs.Rule
-use Rattle.schedule.specs.Rule.{Rule, firstBreak}
+use Rattle.schedule.specs.Rule.{Rule, firstBreak, Everywhere}
 use Rattle.schedule.specs.Model.{Model, model, modelForm}
 use Rattle.schedule.specs.Plan.{Plan, plan, planForm}
-use Rattle.schedule.specs.Checks.{countOf}
+use Rattle.schedule.specs.Checks.{countOf, plainRules, strictRules}
 use Rattle.schedule.specs.Checks.{rule21, rule22, rule23, rule25, rule26, rule27, rule28, rule29, rule30, rule31}
-use Rattle.schedule.specs.Answers.{Answer, refused, answer, Figures, figures}
-use Rattle.schedule.specs.Answers.{plainVerdict, strictVerdict}
+use Rattle.schedule.specs.Keeps.{KeepsPlain}
+use Rattle.schedule.specs.Answers.{Answer, refused, answer, Figures, figures, plainVerdict, strictVerdict}
 use Rattle.schedule.specs.Numbers.{refusalNumbers}
+
+-- ---- the former checks
 
 -- 24 end − start ≥ count, with no truncated difference. A activity.
 unfoldable pub rule24 : Model → Plan → Rule
@@ -26,7 +28,8 @@ rule24 m p = record {
   test = λ a _. leb (p .start a + countOf m p a) (p .end a);
 }
 
--- the rules of the plain and of the strict check as they were, 24 between 23 and 25
+-- The rules of the plain and of the strict check with 24 between 23 and 25. The others are the book's of today: where a later
+-- request changes one of them, it changes here too.
 unfoldable pub formerPlain : Model → Plan → List Rule
 formerPlain m p =
     rule21 m p
@@ -54,9 +57,15 @@ formerPlainVerdict s r = verdictBy (formerPlain (model s) (plan r)) s r
 abbrev pub formerStrictVerdict : List ℕ → List ℕ → Answer Figures
 formerStrictVerdict s r = verdictBy (formerStrict (model s) (plan r)) s r
 
+-- ---- what is to hold
+
 -- "A plan that keeps rule 21 has its active ticks inside its window, so none can break 24": at each activity
 abbrev pub CannotBreak24 : Type 0
 CannotBreak24 = (m : Model) (p : Plan) (a : ℕ) → rule21 m p .Holds a 0 → rule24 m p .Holds a 0
+
+-- so a plan that keeps the plain rules keeps the COMET paper's end − start ≥ duration as before
+abbrev pub StillKept : Type 0
+StillKept = (m : Model) (p : Plan) → KeepsPlain m p → Everywhere (rule24 m p)
 
 -- "every plan's verdict and place equal the former ones": of every two byte strings, accepted with the same figures or
 -- refused with the same number, A and B
@@ -64,11 +73,21 @@ pub record AsBefore : Type 0 where
   pub plain : (s r : List ℕ) → plainVerdict s r ≡ formerPlainVerdict s r
   pub strict : (s r : List ℕ) → strictVerdict s r ≡ formerStrictVerdict s r
 
+-- "take the rule and its number out": the numbers of the two checks, as they were and as they are
+abbrev pub numbersIn : List Rule → List ℕ
+numbersIn rules = map (λ (r : Rule). r .number) rules
+
+pub record TakenOut (m : Model) (p : Plan) : Type 0 where
+  pub plain-before : numbersIn (formerPlain m p) ≡ 21 ∷ 22 ∷ 23 ∷ 24 ∷ 25 ∷ 26 ∷ 27 ∷ 28 ∷ 29 ∷ []
+  pub plain-now : numbersIn (plainRules m p) ≡ 21 ∷ 22 ∷ 23 ∷ 25 ∷ 26 ∷ 27 ∷ 28 ∷ 29 ∷ []
+  pub strict-before : numbersIn (formerStrict m p) ≡ 21 ∷ 22 ∷ 23 ∷ 24 ∷ 25 ∷ 26 ∷ 27 ∷ 28 ∷ 29 ∷ 30 ∷ 31 ∷ []
+  pub strict-now : numbersIn (strictRules m p) ≡ 21 ∷ 22 ∷ 23 ∷ 25 ∷ 26 ∷ 27 ∷ 28 ∷ 29 ∷ 30 ∷ 31 ∷ []
+
 -- an answer is no refusal with number 24
 abbrev pub Not24 : {F : Type 0} → Answer F → Type 0
 Not24 said = (x : Rule.Refusal) → said ≡ refused x → ¬ (x .number ≡ 24)
 
--- "The number is never used again": no refusal that a call can answer has it, and neither check gives it
+-- "The number is never used again": no declared refusal has it, so that no call can answer it, and neither check gives it
 pub record NeverUsed : Type 0 where
   pub declared : (x : Refusal) → ¬ (refusalNumbers x .number ≡ 24)
   pub plain : (s r : List ℕ) → Not24 (plainVerdict s r)
