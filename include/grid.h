@@ -28,7 +28,7 @@ typedef struct GridAnswer {
     uint32_t length;
 } GridAnswer;
 
-/* The plain check of a plan: refusals 1 to 12, 14, and 21 to 29. */
+/* The plain check of a plan: refusals 1 to 12, 14, and 21 to 29. No call answers 24, a number that is out of use. */
 GridAnswer grid_check_plain(const uint8_t *model, size_t model_length,
                             const uint8_t *plan, size_t plan_length);
 

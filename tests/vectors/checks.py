@@ -297,6 +297,32 @@ def window():
     )
 
 
+def window_and_count():
+    part("21 where rule 24 was broken too")
+    early = "24 before 21"
+    case(
+        "activity 0 is active at 1 and 2, its window is 2 to 3",
+        S,
+        s_plan(rows=replaced(S_ROWS, 0, (2, 3))),
+        "refused 21 0 0",
+        misread=early,
+    )
+    case(
+        "activity 0's window ends late, activity 1 is active at 0 and 3, its window is 3 to 4",
+        S,
+        s_plan(rows=replaced(replaced(S_ROWS, 0, (1, 4)), 1, (3, 4))),
+        "refused 21 0 0",
+        misread=early,
+    )
+    case(
+        "activity 1 is active at 0 and 3, its window is 0 to 3: wide enough for 24",
+        S,
+        s_plan(rows=replaced(S_ROWS, 1, (0, 3))),
+        "refused 21 1 0",
+        misread="21 out in the place of 24",
+    )
+
+
 def count_and_deadline():
     part("22 count, 23 deadline")
     case(
@@ -689,5 +715,5 @@ def figures():
     )
 
 
-RULES = (window, count_and_deadline, precedence, earliest_start, preemption, strict_rules)
+RULES = (window, window_and_count, count_and_deadline, precedence, earliest_start, preemption, strict_rules)
 SECTIONS = (model_s, model_form, plan_form, *RULES, figures)
