@@ -15,9 +15,9 @@ use Rattle.schedule.specs.Plan.{Plan, plan, active}
 use Rattle.schedule.specs.declared.RuleRefusal.{RuleRefusal}
 use Rattle.schedule.specs.Numbers.{ruleNumber}
 use Rattle.schedule.specs.Checks.{countOf, efe, window, rule22, rule25, rule26, rule27}
-use Rattle.laws.proofs.Words.{wordOf-ext}
 use Rattle.schedule.specs.Opened.{check-rules}
-use Rattle.laws.proofs.Named.{rule-number}
+use Rattle.laws.proofs.Words.{wordOf-ext}
+use Rattle.laws.proofs.Sound.{rule-number}
 use Rattle.laws.proofs.Tests.{T-and}
 use Rattle.records.specs.declared.plan.Span.{Span}
 use Rattle.records.specs.declared.model.Sizes.{Sizes}

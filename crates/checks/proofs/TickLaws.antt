@@ -17,11 +17,11 @@ use Rattle.schedule.specs.Plan.{Plan, active}
 use Rattle.schedule.specs.Checks.{waits}
 use Rattle.schedule.specs.declared.RuleRefusal.{RuleRefusal}
 use Rattle.schedule.specs.Numbers.{ruleNumber}
+use Rattle.schedule.specs.Opened.{check-rules}
 use Rattle.laws.proofs.Tests.{T-all}
 use Rattle.laws.proofs.Counting.{T-ext, T-false}
 use Rattle.laws.proofs.Words.{bit-high, bit-wordOf, word-ext, wordOf-ext, wordOf-lt}
-use Rattle.schedule.specs.Opened.{check-rules}
-use Rattle.laws.proofs.Named.{rule-number}
+use Rattle.laws.proofs.Sound.{rule-number}
 use Rattle.bits.proofs.WordLaws.{bit-zero}
 use Rattle.schedule.specs.declared.TickRule.{TickRule}
 use Rattle.checks.specs.Windows.{openOf, without}

@@ -69,8 +69,8 @@ fn deadline_holds(s: &[u8], r: &[u8], a: Activity) -> bool
         ≡ inTime (model (now (s .entry))) (planTiming (plan (now (r .entry)))) (plan (now (r .entry)) .end) (a .0) ⌝ }
 {
     let row = records::plan::thread_row(r, thread_of(s, a));
-    let times = records::plan::activity_row(r, a);
-    on_time(row.release as u32, row.period as u32, times.end as u32)
+    let span = records::plan::activity_row(r, a);
+    on_time(row.release as u32, row.period as u32, span.end as u32)
 }
 
 // Whether a start comes before a predecessor's end and delay.
@@ -128,8 +128,8 @@ fn breaking(
     let row = records::model::activity_row(s, a);
     let sizes = records::model::counts(s);
     let n = sizes.activities;
-    let times = records::plan::activity_row(r, a);
-    let start = times.start as u32;
+    let span = records::plan::activity_row(r, a);
+    let start = span.start as u32;
     match rule {
         ActivityRule::Window => flag(window_holds(s, r, a, outside)),
         ActivityRule::Count => flag(count_holds(s, a, at(&tables[COUNTS], a))),

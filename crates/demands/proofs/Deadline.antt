@@ -1,7 +1,7 @@
 -- With "release + period" in the place of rule 23's deadline the checks, the run and the report answer as they do, and where
 -- threads are released at 0 as with the former deadline.
 -- Assumes nothing.
-use Prim.Native.Nat.{ℕ, _+_, _<_}
+use Prim.Native.Nat.{ℕ, _<_}
 use native.Mathlib.Decide.{ℕ-discrete}
 use native.Mathlib.Omega.{arith}
 use mathlib.Core.Bool.{Bool, true, false, not, cond}
@@ -28,10 +28,9 @@ use Rattle.schedule.specs.Report.{dash, reportRow, rowsRule, reportRules, repor
 use Rattle.laws.proofs.FirstBreak.{none-iff, break-same, rule-stops, rule-goes-on, _&_}
 use Rattle.laws.proofs.Formed.{model-says, input-holds}
 use Rattle.laws.proofs.MachineLaws.{table-ext}
-use Rattle.laws.proofs.Named.{rule-number}
 use Rattle.laws.proofs.NumbersLaws.{rule-injective}
 use Rattle.laws.proofs.RuleNumbers.{AllRules, AllNumbers, OfForm, rules-append, model-numbers, plan-numbers, of-form}
-use Rattle.laws.proofs.Sound.{modelForm-sound}
+use Rattle.laws.proofs.Sound.{modelForm-sound, rule-number}
 use Rattle.laws.proofs.VerdictLaws.{input-numbers, input-number, report-from-input}
 use Rattle.demands.specs.ByNumber.{answerBy, answerByRules, bufferByNumber}
 use Rattle.demands.specs.Deadline.{

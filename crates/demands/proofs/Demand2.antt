@@ -25,7 +25,6 @@ use Rattle.schedule.specs.Answers.{plainChecks, strictChecks, plainVerdict, str
 use Rattle.schedule.specs.Answers.{from-input, from-buffer, runOutcome, answerOf, runAnswer, bufferAfter, runBuffer}
 use Rattle.laws.proofs.FirstBreak.{none-iff, some-iff, append-some, hold-append, hold-or-broken}
 use Rattle.laws.proofs.Named.{among, among-front, named, all-named}
-use Rattle.schedule.specs.Opened.{check-rules}
 use Rattle.laws.proofs.Sound.{
   modelForm-sound,
   choiceForm-sound,
@@ -53,6 +52,7 @@ use Rattle.laws.proofs.VerdictLaws.{
   run-verdict,
 }
 use Rattle.schedule.specs.Keeps.{KeepsPlain, KeepsStrict}
+use Rattle.schedule.specs.Opened.{check-rules}
 use Rattle.demands.specs.ByNumber.{bufferByNumber}
 use Rattle.demands.proofs.RunNumbers.{buffer-by-number}
 

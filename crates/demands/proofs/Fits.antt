@@ -31,11 +31,11 @@ use Rattle.schedule.specs.Lines.{runRoom, lastLine, runLines, rowText, lateLine
 use Rattle.laws.proofs.Counting.{count-le}
 use Rattle.laws.proofs.Sums.{greatest-bound, total-bound}
 use Rattle.schedule.specs.Numbers.{formNumber}
+use Rattle.schedule.specs.Opened.{form-rules, check-rules}
 use Rattle.laws.proofs.FirstBreak.{AllSound, some-iff, append-some, sound-append, hold-append, hold-or-broken, says}
 use Rattle.laws.proofs.Sound.{plainChecks-sound, strictChecks-sound, runChecks-sound}
 use Rattle.laws.proofs.VerdictLaws.{input-number, report-from-input, report-answer}
 use Rattle.laws.proofs.RuleNumbers.{AllRules, rules-append, first-broken-rule}
-use Rattle.schedule.specs.Opened.{form-rules, check-rules}
 use Rattle.laws.proofs.Ranges.{chosen-release-lt, chosen-period-lt}
 use Rattle.laws.proofs.Formed.{input-formed}
 use Rattle.laws.proofs.LatenessLaws.{rows-filled, rows-at}

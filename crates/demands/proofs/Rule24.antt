@@ -18,11 +18,10 @@ use Rattle.schedule.specs.Checks.{rule21, rulesOf, plainOrder, strictOrder, pla
 use Rattle.schedule.specs.Answers.{answer, figures, plainChecks, strictChecks, plainVerdict, strictVerdict}
 use Rattle.schedule.specs.Opened.{check-rules}
 use Rattle.laws.proofs.FirstBreak.{Sound, AllSound, append-same, implied-rule}
-use Rattle.laws.proofs.Named.{rule-number}
 use Rattle.laws.proofs.NumbersLaws.{never-24}
 use Rattle.laws.proofs.RuleNumbers.{AllRules, AllNumbers, OfForm, rules-append, rules-follow, first-broken-number}
 use Rattle.laws.proofs.RuleNumbers.{model-numbers, plan-numbers, of-form}
-use Rattle.laws.proofs.Sound.{rules-sound, plainChecks-sound, strictChecks-sound}
+use Rattle.laws.proofs.Sound.{rule-number, rules-sound, plainChecks-sound, strictChecks-sound}
 use Rattle.laws.proofs.Tests.{tests}
 use Rattle.laws.proofs.VerdictLaws.{answer-refused}
 use Rattle.laws.proofs.Windows.{window-span}

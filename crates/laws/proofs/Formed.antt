@@ -13,10 +13,10 @@ use Rattle.schedule.specs.Model.{Model, model, modelForm, Within, Formed}
 use Rattle.schedule.specs.Choice.{Choice, choice, choiceThreadRow, choiceForm}
 use Rattle.schedule.specs.Answers.{runChecks}
 use Rattle.schedule.specs.Numbers.{formNumber}
+use Rattle.schedule.specs.Opened.{form-rules}
 use Rattle.laws.proofs.FieldLaws.{field-lt}
 use Rattle.laws.proofs.FirstBreak.{says, none-iff, hold-append}
 use Rattle.laws.proofs.Sound.{runChecks-sound}
-use Rattle.schedule.specs.Opened.{form-rules}
 
 -- rules 3, 6 and 7
 pub model-says : (s : List ℕ) → AllHold (modelForm s) → Formed (model s)

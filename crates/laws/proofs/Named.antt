@@ -5,8 +5,6 @@ use mathlib.Core.List.{List, [], _∷_, _++_}
 use mathlib.Core.Logic.{_⊎_, inl, inr, _↔_, ⊎-elim}
 use mathlib.Core.Path.{_≡_, refl, sym, subst, ap}
 use lib.Dec.{T, eqb, eqb→eq}
-use Rattle.schedule.specs.declared.ActivityRule.{ActivityRule}
-use Rattle.schedule.specs.declared.TickRule.{TickRule}
 use Rattle.schedule.specs.declared.RuleRefusal.{RuleRefusal}
 use Rattle.schedule.specs.Rule.{Rule, Everywhere, AllHold}
 use Rattle.schedule.specs.Model.{Model}
@@ -15,7 +13,6 @@ use Rattle.schedule.specs.Checks.{ruleOf, rulesOf}
 use Rattle.schedule.specs.Numbers.{ruleNumber}
 use Rattle.laws.proofs.Tests.{T-or, T-eqb}
 use Rattle.laws.proofs.NumbersLaws.{rule-injective}
-use Rattle.schedule.specs.Opened.{check-rules}
 
 -- a name stands in an order
 abbrev pub among : RuleRefusal → List RuleRefusal → Bool
@@ -66,17 +63,3 @@ module _ (m : Model) (p : Plan) where
   pub rulesOf-append : (xs ys : List RuleRefusal) → rulesOf (xs ++ ys) m p ≡ rulesOf xs m p ++ rulesOf ys m p
   rulesOf-append [] ys = refl
   rulesOf-append (x ∷ xs) ys = ap (λ (l : List Rule). ruleOf x m p ∷ l) (rulesOf-append xs ys)
-
-  -- a rule has its name's number
-  pub rule-number : (name : RuleRefusal) → ruleNumber name ≡ ruleOf name m p .number
-  unfolding check-rules
-  rule-number (RuleRefusal.Activity ActivityRule.Window) = refl
-  rule-number (RuleRefusal.Activity ActivityRule.Count) = refl
-  rule-number (RuleRefusal.Activity ActivityRule.Deadline) = refl
-  rule-number (RuleRefusal.Activity ActivityRule.Temporal) = refl
-  rule-number (RuleRefusal.Activity ActivityRule.Data) = refl
-  rule-number (RuleRefusal.Activity ActivityRule.Eligible) = refl
-  rule-number (RuleRefusal.Tick TickRule.Cores) = refl
-  rule-number (RuleRefusal.Tick TickRule.Preemption) = refl
-  rule-number (RuleRefusal.Tick TickRule.Idle) = refl
-  rule-number (RuleRefusal.Tick TickRule.Tie) = refl

@@ -15,8 +15,8 @@ use Rattle.schedule.specs.Rule.{AllHold}
 use Rattle.schedule.specs.Model.{Model, Within}
 use Rattle.schedule.specs.Plan.{Plan, plan, active, planBytes, planForm, planThreadRow, gridAt, tickAt, planLength}
 use Rattle.schedule.specs.Numbers.{formNumber}
-use Rattle.laws.proofs.FirstBreak.{says}
 use Rattle.schedule.specs.Opened.{form-rules}
+use Rattle.laws.proofs.FirstBreak.{says}
 use Rattle.laws.proofs.Parts.{Alike, alike-join, alike-field, alike-rows}
 use Rattle.laws.proofs.PlanBytes.{Fits, ReadsBack, reads-back, length-planBytes}
 

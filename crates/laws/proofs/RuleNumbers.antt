@@ -12,8 +12,8 @@ use Rattle.schedule.specs.Rule.{Rule, Refusal, FirstBroken}
 use Rattle.schedule.specs.Model.{Model, modelForm}
 use Rattle.schedule.specs.Choice.{choiceForm}
 use Rattle.schedule.specs.Plan.{planForm}
-use Rattle.laws.proofs.FirstBreak.{_&_}
 use Rattle.schedule.specs.Opened.{form-rules}
+use Rattle.laws.proofs.FirstBreak.{_&_}
 use Rattle.laws.proofs.Tests.{T-or}
 
 -- every rule of a list has a property

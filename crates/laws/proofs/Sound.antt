@@ -3,6 +3,7 @@
 use Prim.Native.Nat.{ℕ}
 use mathlib.Core.List.{List, [], _∷_, _++_}
 use mathlib.Core.Logic.{_↔_, Iff·rfl}
+use mathlib.Core.Path.{_≡_, refl}
 use lib.Dec.{T}
 use Rattle.schedule.specs.declared.ActivityRule.{ActivityRule}
 use Rattle.schedule.specs.declared.TickRule.{TickRule}
@@ -16,9 +17,10 @@ use Rattle.schedule.specs.Checks.{Window, window, Waiting, waits}
 use Rattle.schedule.specs.Checks.{ruleOf, rulesOf, plainOrder, strictOrder, plainRules, strictRules}
 use Rattle.schedule.specs.Answers.{owedRule, runRules, plainChecks, strictChecks, runChecks}
 use Rattle.schedule.specs.Report.{rowsRule, reportRules}
+use Rattle.schedule.specs.Numbers.{ruleNumber}
+use Rattle.schedule.specs.Opened.{form-rules, check-rules}
 use Rattle.laws.proofs.Tests.{tests}
 use Rattle.laws.proofs.Deadlines.{in-time-sound}
-use Rattle.schedule.specs.Opened.{form-rules, check-rules}
 use Rattle.laws.proofs.FirstBreak.{Sound, AllSound, sound-append, _&_}
 
 -- the two statements that are records, by their parts
@@ -68,23 +70,28 @@ pub planForm-sound : (m : Model) (r : List ℕ) → AllSound (planForm m r)
 unfolding planForm form-rules
 planForm-sound m r = simp whole (same _ & same _ & same _ & same _ & same _ & same _ & tt)
 
--- the rules of the checks by name, and those of an order
-rule-sound : (name : RuleRefusal) (m : Model) (p : Plan) → Sound (ruleOf name m p)
+-- the rules of the checks by name: a rule has its name's number, and its test decides its statement
+known : (name : RuleRefusal) (m : Model) (p : Plan)
+    → (ruleNumber name ≡ ruleOf name m p .number) × Sound (ruleOf name m p)
 unfolding check-rules
-rule-sound (RuleRefusal.Activity ActivityRule.Window) m p = simp whole (same _)
-rule-sound (RuleRefusal.Activity ActivityRule.Count) m p = simp whole (same _)
-rule-sound (RuleRefusal.Activity ActivityRule.Deadline) m p = simp whole (same _)
-rule-sound (RuleRefusal.Activity ActivityRule.Temporal) m p = simp whole (same _)
-rule-sound (RuleRefusal.Activity ActivityRule.Data) m p = simp whole (same _)
-rule-sound (RuleRefusal.Activity ActivityRule.Eligible) m p = simp whole (same _)
-rule-sound (RuleRefusal.Tick TickRule.Cores) m p = simp whole (same _)
-rule-sound (RuleRefusal.Tick TickRule.Preemption) m p = simp whole (same _)
-rule-sound (RuleRefusal.Tick TickRule.Idle) m p = simp whole (same _)
-rule-sound (RuleRefusal.Tick TickRule.Tie) m p = simp whole (same _)
+known (RuleRefusal.Activity ActivityRule.Window) m p = (refl, simp whole (same _))
+known (RuleRefusal.Activity ActivityRule.Count) m p = (refl, simp whole (same _))
+known (RuleRefusal.Activity ActivityRule.Deadline) m p = (refl, simp whole (same _))
+known (RuleRefusal.Activity ActivityRule.Temporal) m p = (refl, simp whole (same _))
+known (RuleRefusal.Activity ActivityRule.Data) m p = (refl, simp whole (same _))
+known (RuleRefusal.Activity ActivityRule.Eligible) m p = (refl, simp whole (same _))
+known (RuleRefusal.Tick TickRule.Cores) m p = (refl, simp whole (same _))
+known (RuleRefusal.Tick TickRule.Preemption) m p = (refl, simp whole (same _))
+known (RuleRefusal.Tick TickRule.Idle) m p = (refl, simp whole (same _))
+known (RuleRefusal.Tick TickRule.Tie) m p = (refl, simp whole (same _))
 
+pub rule-number : (m : Model) (p : Plan) (name : RuleRefusal) → ruleNumber name ≡ ruleOf name m p .number
+rule-number m p name = known name m p .0
+
+-- and those of an order
 pub rules-sound : (names : List RuleRefusal) (m : Model) (p : Plan) → AllSound (rulesOf names m p)
 rules-sound [] m p = tt
-rules-sound (name ∷ names) m p = rule-sound name m p & rules-sound names m p
+rules-sound (name ∷ names) m p = known name m p .1 & rules-sound names m p
 
 pub plainRules-sound : (m : Model) (p : Plan) → AllSound (plainRules m p)
 unfolding plainRules
