@@ -34,6 +34,7 @@ pub rules-append : (P : Rule → Type 0) (xs ys : List Rule) → AllRules P xs �
 rules-append P [] ys h k = k
 rules-append P (r ∷ xs) ys h k = (h .0, rules-append P xs ys (h .1) k)
 
+-- and one that follows from it
 pub rules-follow : (P Q : Rule → Type 0) (rules : List Rule) → ((r : Rule) → P r → Q r) → AllRules P rules → AllRules Q rules
 rules-follow P Q [] f h = tt
 rules-follow P Q (r ∷ rules) f h = (f r (h .0), rules-follow P Q rules f (h .1))
