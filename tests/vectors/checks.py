@@ -298,7 +298,7 @@ def window():
 
 
 def window_and_count():
-    part("21 where rule 24 was broken too")
+    part("21 beside what rule 24 asked")
     early = "24 before 21"
     case(
         "activity 0 is active at 1 and 2, its window is 2 to 3",

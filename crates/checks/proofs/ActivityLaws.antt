@@ -8,22 +8,19 @@ use mathlib.Core.List.{List}
 use mathlib.Core.Path.{_≡_, refl, sym, subst, ap, ap₂, _∙_}
 use lib.Dec.{T, leb, ltb, ltb→lt}
 use lib.ListN.{getD}
+use Rattle.schedule.specs.declared.ActivityRule.{ActivityRule}
 use Rattle.schedule.specs.Bounded.{bit, wordOf, _⇒_}
 use Rattle.schedule.specs.Rule.{Rule}
 use Rattle.schedule.specs.Model.{Model, model, within, temporally, byData}
 use Rattle.schedule.specs.Plan.{Plan, plan, active}
-use Rattle.schedule.specs.declared.RuleRefusal.{RuleRefusal}
-use Rattle.schedule.specs.Numbers.{ruleNumber}
 use Rattle.schedule.specs.Checks.{countOf, efe, window, rule22, rule25, rule26, rule27}
 use Rattle.schedule.specs.Opened.{check-rules}
 use Rattle.laws.proofs.Words.{wordOf-ext}
-use Rattle.laws.proofs.Sound.{rule-number}
 use Rattle.laws.proofs.Tests.{T-and}
 use Rattle.records.specs.declared.plan.Span.{Span}
 use Rattle.records.specs.declared.model.Sizes.{Sizes}
 use Rattle.records.specs.Rows.{spanOf, sizesOf}
 use Rattle.tables.specs.Columns.{TableOf}
-use Rattle.schedule.specs.declared.ActivityRule.{ActivityRule}
 use Rattle.checks.specs.Tables.{brokenMask, finishOf}
 use Rattle.checks.proofs.MaskRow.{one-column}
 use Rattle.checks.specs.Rules.{activityRule, earlyFrom, noneOutside}
@@ -71,9 +68,6 @@ activity-shape ActivityRule.Deadline m p = (refl, λ h. omega arith)
 activity-shape ActivityRule.Temporal m p = (refl, λ h. h)
 activity-shape ActivityRule.Data m p = (refl, λ h. h)
 activity-shape ActivityRule.Eligible m p = (refl, λ h. omega arith)
-
-pub activity-number : (rule : ActivityRule) (m : Model) (p : Plan) → ruleNumber (RuleRefusal.Activity rule) ≡ activityRule rule m p .number
-activity-number rule m p = rule-number m p (RuleRefusal.Activity rule)
 
 -- a rule that names no B: the flag is its mask
 pub flagged : (r : Rule) (a mask : ℕ) (holds : Bool) → r .columns ≡ 1 → mask ≡ cond holds 0 1 → holds ≡ r .test a 0

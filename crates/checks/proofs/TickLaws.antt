@@ -11,19 +11,16 @@ use lib.Bits.{bitAnd, and-zero-l}
 use lib.Dec.{T, leb, ltb, eqb}
 use lib.ListN.{getD}
 use lib.Pow.{pow-mono}
+use Rattle.schedule.specs.declared.TickRule.{TickRule}
 use Rattle.schedule.specs.Bounded.{all, ones, bit, wordOf}
 use Rattle.schedule.specs.Model.{Model, priorityOf}
 use Rattle.schedule.specs.Plan.{Plan, active}
 use Rattle.schedule.specs.Checks.{waits}
-use Rattle.schedule.specs.declared.RuleRefusal.{RuleRefusal}
-use Rattle.schedule.specs.Numbers.{ruleNumber}
 use Rattle.schedule.specs.Opened.{check-rules}
 use Rattle.laws.proofs.Tests.{T-all}
 use Rattle.laws.proofs.Counting.{T-ext, T-false}
 use Rattle.laws.proofs.Words.{bit-high, bit-wordOf, word-ext, wordOf-ext, wordOf-lt}
-use Rattle.laws.proofs.Sound.{rule-number}
 use Rattle.bits.proofs.WordLaws.{bit-zero}
-use Rattle.schedule.specs.declared.TickRule.{TickRule}
 use Rattle.checks.specs.Windows.{openOf, without}
 use Rattle.tables.specs.declared.ranking.Order.{Order}
 use Rattle.tables.specs.Columns.{amongActivities}
@@ -134,9 +131,6 @@ tick-shape TickRule.Cores m p = (refl, λ h. omega arith)
 tick-shape TickRule.Preemption m p = (refl, λ h. h)
 tick-shape TickRule.Idle m p = (refl, λ h. h)
 tick-shape TickRule.Tie m p = (refl, λ h. h)
-
-pub tick-number : (rule : TickRule) (m : Model) (p : Plan) → ruleNumber (RuleRefusal.Tick rule) ≡ tickRule rule m p .number
-tick-number rule m p = rule-number m p (RuleRefusal.Tick rule)
 
 -- the mask of a tick, from the word, the cores and the open windows that the code reads
 pub tick-read : (rule : TickRule) (m : Model) (p : Plan) (tables : List (List ℕ)) (masks : List ℕ) → Tabulated m p tables

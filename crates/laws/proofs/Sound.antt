@@ -1,4 +1,5 @@
--- Each test of the definitions decides the statement that stands beside it, rule by rule and list by list.
+-- Each test of the definitions decides the statement that stands beside it, rule by rule and list by list; and a rule of the
+-- checks has its name's number.
 -- Assumes nothing.
 use Prim.Native.Nat.{ℕ}
 use mathlib.Core.List.{List, [], _∷_, _++_}

@@ -3,13 +3,15 @@ use Prim.Native.Nat.{ℕ, _≤_, _-_}
 use native.Mathlib.Omega.{arith}
 use mathlib.Core.Option.{some}
 use mathlib.Core.Path.{_≡_, sym, subst, ap, _∙_}
+use Rattle.schedule.specs.declared.RuleRefusal.{RuleRefusal}
 use Rattle.schedule.specs.Model.{model}
 use Rattle.schedule.specs.Plan.{plan}
 use Rattle.records.specs.declared.model.Sizes.{Sizes}
 use Rattle.records.specs.Rows.{sizesOf}
 use Rattle.laws.proofs.RowLaws.{ClearTo, clear-start, clear-again, clear-end, clear-stop}
+use Rattle.laws.proofs.Sound.{rule-number}
 use Rattle.checks.specs.Rules.{activityRule, Counted}
-use Rattle.checks.proofs.ActivityLaws.{activity-shape, activity-number}
+use Rattle.checks.proofs.ActivityLaws.{activity-shape}
 use Rattle.checks.proofs.MaskRow.{row-stops, row-goes-on}
 use borrow.Author.Needs.{needs}
 use Rattle.checks.proofs.activity.over_activities.Statement.{statement}
@@ -54,7 +56,7 @@ returns c =
     let p = plan (x .r .now) in
     c .refused .ensures
     ∙ ap (λ (k : ℕ). some (record { number = k; A = l .number; B = c .before .before .lowest .result }))
-    (activity-number (x .rule) m p)
+    (rule-number m p (RuleRefusal.Activity (x .rule)))
     ∙ sym (clear-stop (activityRule (x .rule) m p) (l .number) _ (l .inv .3)
     (omega (arith, activity-shape (x .rule) m p .0, l .inv .1, c5 .loop-test .taken))
     (row-stops (activityRule (x .rule) m p) (l .number) _ _ (activity-shape (x .rule) m p .1 (l .inv .2 .tabulated .few))

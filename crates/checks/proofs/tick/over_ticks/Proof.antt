@@ -3,17 +3,19 @@ use Prim.Native.Nat.{ℕ, _≤_, _-_}
 use native.Mathlib.Omega.{arith}
 use mathlib.Core.Option.{some}
 use mathlib.Core.Path.{_≡_, sym, subst, ap, _∙_}
+use Rattle.schedule.specs.declared.RuleRefusal.{RuleRefusal}
 use Rattle.schedule.specs.Model.{model}
 use Rattle.schedule.specs.Plan.{plan}
 use Rattle.records.specs.declared.model.Sizes.{Sizes}
 use Rattle.records.specs.Rows.{sizesOf}
 use Rattle.laws.proofs.RowLaws.{ClearTo, clear-start, clear-again, clear-end, clear-stop}
+use Rattle.laws.proofs.Sound.{rule-number}
 use Rattle.laws.proofs.PlanBytes.{word-read}
 use Rattle.ticks.specs.Kept.{Stands}
 use Rattle.ticks.proofs.KeptLaws.{stands-unknown, stands-on}
 use Rattle.checks.specs.Tables.{ends, froms, tickRule, Tabulated, Ranked}
 use Rattle.checks.specs.Windows.{openOf}
-use Rattle.checks.proofs.TickLaws.{tick-read, tick-shape, tick-number}
+use Rattle.checks.proofs.TickLaws.{tick-read, tick-shape}
 use Rattle.checks.proofs.MaskRow.{row-stops, row-goes-on}
 use borrow.Author.Needs.{needs}
 use Rattle.checks.proofs.tick.over_ticks.Statement.{statement}
@@ -110,7 +112,7 @@ returns c =
     let few = tick-shape (x .rule) m p .1 (l .inv .4 .few) in
     c .refused .ensures
     ∙ ap (λ (k : ℕ). some (record { number = k; A = l .t; B = c .before .before .lowest .result }))
-    (tick-number (x .rule) m p)
+    (rule-number m p (RuleRefusal.Tick (x .rule)))
     ∙ sym (clear-stop (tickRule (x .rule) m p) (l .t) _ (l .inv .5)
     (omega (arith, tick-shape (x .rule) m p .0, l .inv .1, c9 .loop-test .taken))
     (row-stops (tickRule (x .rule) m p) (l .t) _ _ few mask (c .before .before .lowest .ensures)
