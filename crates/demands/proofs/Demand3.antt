@@ -100,7 +100,8 @@ module _ (s q : List ℕ) (q-bytes : Bytes q) (formed : AllHold (modelForm s))
         (λ t _ b _ l. bit-high (machineWord (model s) (choice q .release) (choice q .duration) t) (model s .activities) b
         (word-lt (model s) (choice q .release) (choice q .duration) t) l)
 
-    made : Made (model s) (choice q .release) (choice q .duration) (plan (planBytes (machinePlan (model s) (choice q))))
+    -- it is the machine's page
+    pub made : Made (model s) (choice q .release) (choice q .duration) (plan (planBytes (machinePlan (model s) (choice q))))
     unfolding machinePlan
     made = record {
       words = back .word;

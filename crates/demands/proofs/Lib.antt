@@ -11,3 +11,6 @@ pub mod Deadline
 pub mod WrongDeadlines
 pub mod Rule24
 pub mod WrongRemovals
+pub mod Urgent
+pub mod UrgentClaims
+pub mod UrgentCases

@@ -6,13 +6,13 @@ use native.Mathlib.Decide.{decLt}
 use native.Mathlib.Omega.{arith}
 use mathlib.Core.List.{List, _∷_, _++_}
 use mathlib.Core.Logic.{⊎-elim}
-use mathlib.Core.Path.{_≡_, refl, sym, ap, _∙_}
+use mathlib.Core.Path.{_≡_, refl, sym, subst, ap, _∙_}
 use lib.ListN.{length, drop}
 use Rattle.schedule.specs.Bounded.{chain}
 use Rattle.schedule.specs.Fields.{Bytes}
 use Rattle.schedule.specs.Rule.{AllHold}
 use Rattle.schedule.specs.Model.{model, modelForm}
-use Rattle.schedule.specs.Choice.{choice}
+use Rattle.schedule.specs.Choice.{choice, choiceForm}
 use Rattle.schedule.specs.Plan.{Plan, plan, planBytes}
 use Rattle.schedule.specs.Answers.{
   Answer,
@@ -26,13 +26,15 @@ use Rattle.schedule.specs.Answers.{
   runBuffer,
 }
 use Rattle.schedule.specs.Lines.{shown, tickLine, runLines}
+use Rattle.laws.proofs.Exists.{Made}
 use Rattle.laws.proofs.FieldLaws.{chain-ext}
 use Rattle.laws.proofs.Parts.{stands-whole, stands-first}
 use Rattle.laws.proofs.PlanBytes.{ReadsFrom, reads-from}
 use Rattle.laws.proofs.FirstBreak.{hold-append}
 use Rattle.laws.proofs.VerdictLaws.{accepted-is-not-refused}
+use Rattle.demands.specs.Strict.{planWritten}
 use Rattle.demands.proofs.Demand2.{run-input, run-input-refused, run-short-buffer, run-accepted, buffer-accepted}
-use Rattle.demands.proofs.Demand3.{machine-fits}
+use Rattle.demands.proofs.Demand3.{machine-fits, made, settled-by, its-plan}
 
 -- what a run that succeeds has passed
 module _ (s q : List ℕ) (room : ℕ) (w : Written) (e : runAnswer s q room ≡ accepted w) where
@@ -48,6 +50,17 @@ module _ (s q : List ℕ) (room : ℕ) (w : Written) (e : runAnswer s q room ≡
         | yes l ↦ absurd (accepted-is-not-refused w _ (sym e ∙ run-short-buffer s q room checked l))
         | no l ↦ omega arith
       ]
+
+-- the plan that a successful run wrote has the machine's words, starts and ends
+pub written-made : (s q buffer : List ℕ) → Bytes q → (w : Written) → runAnswer s q (length buffer) ≡ accepted w
+    → Made (model s) (choice q .release) (choice q .duration) (plan (planWritten s q buffer w))
+unfolding runChecks
+written-made s q buffer bytes w e =
+    let both = hold-append (modelForm s) (choiceForm (model s) q) .0 (checked s q (length buffer) w e) in
+    let fits = roomy s q (length buffer) w e in
+    subst (λ (r : List ℕ). Made (model s) (choice q .release) (choice q .duration) (plan r))
+    (sym (its-plan s q bytes (both .0) (both .1) buffer fits w e))
+    (made s q bytes (both .0) (both .1) (settled-by s q bytes (both .0) (both .1) buffer fits w e))
 
 -- the machine's plan is read from the front of the buffer
 read-from-buffer : (s q buffer : List ℕ) → Bytes q → (w : Written) → runAnswer s q (length buffer) ≡ accepted w

@@ -4,3 +4,4 @@ pub mod ByNumber
 pub mod Lateness
 pub mod Deadline
 pub mod Rule24
+pub mod Urgent

@@ -7,8 +7,8 @@ use mathlib.Core.Bool.{Bool, true, false, _&&_, cond}
 use mathlib.Core.Logic.{_⊎_, inl, inr, ⊎-elim}
 use mathlib.Core.Path.{_≡_, refl, subst, ap, ap₂}
 use lib.Dec.{T}
-use Rattle.schedule.specs.Bounded.{all, count}
-use Rattle.laws.proofs.Tests.{below-suc}
+use Rattle.schedule.specs.Bounded.{all, count, _⇒_}
+use Rattle.laws.proofs.Tests.{T-and, below-suc}
 
 -- a test passes or it does not
 pub decT : (b : Bool) → T b ⊎ (¬ T b)
@@ -29,6 +29,15 @@ T-ext true true f g = refl
 T-ext true false f g = absurd (f tt)
 T-ext false true f g = absurd (g tt)
 T-ext false false f g = refl
+
+-- two tests beside a third, and behind a third, are equal if they are where the third passes
+pub and-same : (a b c : Bool) → (T c → a ≡ b) → (a && c) ≡ (b && c)
+and-same a b true h = ap (λ (x : Bool). x && true) (h tt)
+and-same a b false h = T-ext _ _ (λ t. absurd (T-and a false .0 t .1)) (λ t. absurd (T-and b false .0 t .1))
+
+pub implies-same : (c a b : Bool) → (T c → a ≡ b) → (c ⇒ a) ≡ (c ⇒ b)
+implies-same true a b h = h tt
+implies-same false a b h = refl
 
 -- what a test adds to a count
 abbrev pub weight : Bool → ℕ

@@ -7,7 +7,7 @@ use mathlib.Core.Bool.{Bool, _&&_, cond}
 use mathlib.Core.List.{List, [], _∷_, _++_}
 use mathlib.Core.Logic.{_⊎_, ⊎-elim, _↔_}
 use mathlib.Core.Path.{_≡_, refl, sym, subst, ap, ap₂, _∙_}
-use lib.Dec.{T, eqb}
+use lib.Dec.{T, eqb, leb, ltb}
 use lib.ListN.{length, getD, length-append, List·getD-append}
 use lib.Seq.{getD-at}
 use borrow.Author.Tests.{eq-eqb}
@@ -16,7 +16,7 @@ use Rattle.schedule.specs.Model.{Model, temporally, byData}
 use Rattle.schedule.specs.Machine.{State, owes, endOf, endedBy, ready, selected, wordAt, initial, step, stateAt}
 use Rattle.schedule.specs.Machine.{machineWord, machineOwes}
 use Rattle.laws.proofs.Tests.{tests, below-suc}
-use Rattle.laws.proofs.Counting.{decT, T-true, T-false, weight, one-if, zero-if, count-suc, count-zero}
+use Rattle.laws.proofs.Counting.{decT, T-true, T-false, implies-same, weight, one-if, zero-if, count-suc, count-zero, all-ext}
 use Rattle.laws.proofs.Words.{bit-wordOf, wordOf-lt, bit-high, ones-count}
 
 pub length-table : {A : Type 0} (n : ℕ) (f : ℕ → A) → length (table n f) ≡ n
@@ -69,6 +69,27 @@ ready-sound m release t s a = (λ x. there (simp tests at x), λ h. simp tests (
     back : Ready m release t s a → Parts
     back h = ((h .owing, h .released), (h .temporal, λ b l x. let e = h .by-data b l x in (e .0, omega arith)))
 
+-- two states have activity a owe the same, with the same end
+pub record SameFor (s s′ : State) (a : ℕ) : Type 0 where
+  pub owed : owes s a ≡ owes s′ a
+  pub end : endOf s a ≡ endOf s′ a
+
+-- Whether an activity is ready depends only on what it owes, on its thread's release, and on its predecessors.
+pub ready-local : (m : Model) (release release′ : ℕ → ℕ) (t : ℕ) (s s′ : State) (a : ℕ)
+    → owes s a ≡ owes s′ a → release (m .thread a) ≡ release′ (m .thread a)
+    → ((b : ℕ) → b < m .activities → T (temporally m b a) → SameFor s s′ b)
+    → ((b : ℕ) → b < m .activities → T (byData m b a) → SameFor s s′ b)
+    → ready m release t s a ≡ ready m release′ t s′ a
+unfolding ready endedBy
+ready-local m release release′ t s s′ a owed released temporal by-data =
+    ap₂ _&&_ (ap₂ (λ (o r : ℕ). ltb 0 o && leb r t) owed released)
+    (ap₂ _&&_
+    (all-ext (m .activities) _ _ (λ b l. implies-same (temporally m b a) _ _ (λ x. ended-same b (m .delay b) (temporal b l x))))
+    (all-ext (m .activities) _ _ (λ b l. implies-same (byData m b a) _ _ (λ x. ended-same b 0 (by-data b l x)))))
+  where
+    ended-same : (b delay : ℕ) → SameFor s s′ b → endedBy s b delay t ≡ endedBy s′ b delay t
+    ended-same b delay h = ap₂ (λ (o e : ℕ). eqb o 0 && leb (e + delay) t) (h .owed) (h .end)
+
 module _ (m : Model) (release duration : ℕ → ℕ) where
   -- the machine's state at a tick, and whether it has an activity active there
   abbrev pub at : ℕ → State
@@ -80,6 +101,10 @@ module _ (m : Model) (release duration : ℕ → ℕ) where
   pub owes-first : (a : ℕ) → a < m .activities → owes (at 0) a ≡ duration a
   unfolding stateAt initial
   owes-first a l = getD-table 0 (m .activities) duration a l
+
+  pub end-first : (a : ℕ) → a < m .activities → endOf (at 0) a ≡ 0
+  unfolding stateAt initial
+  end-first a l = getD-table 0 (m .activities) (λ _. 0) a l
 
   pub owes-next : (t a : ℕ) → a < m .activities → owes (at (suc t)) a ≡ owes (at t) a - weight (runs t a)
   unfolding stateAt step machineWord

@@ -10,16 +10,15 @@ use lib.Pow.{pow-mono}
 use Rattle.schedule.specs.Bounded.{bit}
 use Rattle.schedule.specs.Model.{Model, Formed}
 use Rattle.schedule.specs.Choice.{Choice}
-use Rattle.schedule.specs.Machine.{owes, endOf, initial, stateAt, machineWord, machineStart, machineEnd}
+use Rattle.schedule.specs.Machine.{owes, endOf, stateAt, machineWord, machineStart, machineEnd}
 use Rattle.schedule.specs.Answers.{machinePlan}
 use Rattle.laws.proofs.Lowest.{lowest-is}
-use Rattle.laws.proofs.MachineLaws.{end-next, word-lt, getD-table}
+use Rattle.laws.proofs.MachineLaws.{end-first, end-next, word-lt}
 use Rattle.laws.proofs.PlanBytes.{Fits}
 
 -- an end is no later than the tick
 pub end-le : (m : Model) (release duration : ℕ → ℕ) (t a : ℕ) → a < m .activities → endOf (stateAt m release duration t) a ≤ t
-unfolding stateAt initial
-end-le m release duration zero a l = omega (arith, getD-table {A = ℕ} 0 (m .activities) (λ _. 0) a l)
+end-le m release duration zero a l = omega (arith, end-first m release duration a l)
 end-le m release duration (suc t) a l =
     subst (λ (x : ℕ). x ≤ suc t) (sym (end-next m release duration t a l))
     (one (end-le m release duration t a l) (bit (machineWord m release duration t) a && eqb (owes (stateAt m release duration t) a) 1))

@@ -7,13 +7,13 @@ use native.Mathlib.Nat.{le-of-eq, not-suc-le-zero}
 use native.Mathlib.Omega.{arith}
 use mathlib.Core.Bool.{Bool, _&&_}
 use mathlib.Core.Logic.{_⊎_, inl, inr, ⊎-elim}
-use mathlib.Core.Path.{_≡_, sym, subst, _∙_}
+use mathlib.Core.Path.{_≡_, sym, subst, ap₂, _∙_}
 use lib.Dec.{T, eqb, ltb, ltb→lt, lt→ltb}
 use Rattle.schedule.specs.Bounded.{count}
 use Rattle.schedule.specs.Model.{Model, priorityOf}
 use Rattle.schedule.specs.Machine.{before, rank, selected}
 use Rattle.laws.proofs.Tests.{tests, T-and, T-or, below-suc}
-use Rattle.laws.proofs.Counting.{decT, T-ext, count-mono, count-less, count-union, count-single, count-none}
+use Rattle.laws.proofs.Counting.{decT, T-ext, and-same, count-ext, count-mono, count-less, count-union, count-single, count-none}
 
 -- b ranks before a, as a statement
 unfoldable pub Before : Model → ℕ → ℕ → Type 0
@@ -61,6 +61,15 @@ before-total m a b d =
         ]
       ]
     ]
+
+-- Whether an activity is selected depends only on the ready that rank before it, and on itself.
+pub selected-local : (m : Model) (rdy rdy′ : ℕ → Bool) (a : ℕ) → rdy a ≡ rdy′ a
+    → ((b : ℕ) → b < m .activities → Before m b a → rdy b ≡ rdy′ b)
+    → selected m rdy a ≡ selected m rdy′ a
+unfolding selected rank
+selected-local m rdy rdy′ a same ahead-same =
+    ap₂ (λ (r : Bool) (k : ℕ). r && ltb k (m .cores)) same
+    (count-ext (m .activities) _ _ (λ b l. and-same (rdy b) (rdy′ b) (before m b a) (λ t. ahead-same b l (before-says m b a t))))
 
 -- The ready of a tick, by `rdy`.
 module _ (m : Model) (rdy : ℕ → Bool) where

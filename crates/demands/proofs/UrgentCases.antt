@@ -1,0 +1,282 @@
+-- "Urgent threads don't notice the others" (U3 of 02) on literal models and choices: where something is promised and the words
+-- differ elsewhere, where nothing is promised, and claims that are nearly the request's, each with records on which it would
+-- be false. One table with one truth about it; the values are worked out by hand.
+-- Assumes nothing.
+use Prim.Native.Nat.{ℕ}
+use mathlib.Core.Bool.{Bool, true, false}
+use mathlib.Core.List.{List, [], _∷_, _++_, map}
+use mathlib.Core.Option.{Option, none}
+use mathlib.Core.Path.{_≡_, refl}
+use Rattle.schedule.specs.Bounded.{table}
+use Rattle.schedule.specs.Rule.{Refusal, firstBreak}
+use Rattle.schedule.specs.Model.{Model, model, modelForm}
+use Rattle.schedule.specs.Choice.{Choice, choice}
+use Rattle.schedule.specs.Machine.{machineWord}
+use Rattle.schedule.specs.Answers.{Answer, Figures, lengthNeeded, runAnswer}
+use Rattle.schedule.specs.Cases.{every, patch, accepts, refuses, printed}
+use Rattle.demands.proofs.UrgentClaims.{
+  Claim,
+  asks,
+  agree,
+  requested,
+  temporalOnly,
+  dataOnly,
+  precededAbove,
+  releasesAbove,
+  durationsAbove,
+  withoutReleases,
+  withoutDurations,
+  everyBit,
+  byNumber,
+}
+
+-- What a claim comes to, of a model, a P and two choices: whether what it asks for is given, and whether the bits that it
+-- promises agree.
+pub record Comes : Type 0 where
+  pub given : Bool
+  pub kept : Bool
+
+abbrev pub comes : Claim → Model → ℕ → Choice → Choice → Comes
+comes c m P q q′ = record { given = asks c m P q q′; kept = agree c m P q q′ }
+
+-- it promises these bits, and they agree; it promises nothing, and they differ; it is false
+abbrev holds : Comes
+holds = record { given = true; kept = true }
+
+abbrev silent : Comes
+silent = record { given = false; kept = false }
+
+abbrev fails : Comes
+fails = record { given = true; kept = false }
+
+-- the words that the machine makes of a choice, and whether the run accepts them
+pub record Run : Type 0 where
+  pub words : List ℕ
+  pub verdict : Answer Figures
+
+abbrev pub run : List ℕ → List ℕ → Run
+run s q = record {
+  words = table (model s .horizon) (machineWord (model s) (choice q .release) (choice q .duration));
+  verdict = printed (runAnswer s q (lengthNeeded (model s)));
+}
+
+-- What is said of a model, a P and two choices: the first form rule that the model breaks, both runs, what the request's
+-- claim comes to, and what another does.
+pub record Said : Type 0 where
+  pub form : Option Refusal
+  pub first : Run
+  pub second : Run
+  pub right : Comes
+  pub instead : Comes
+
+pub record Case : Type 0 where
+  pub model-bytes : List ℕ
+  pub P : ℕ
+  pub first : List ℕ
+  pub second : List ℕ
+  pub claim : Claim
+  pub expected : Said
+
+abbrev pub said : Case → Said
+said c = record {
+  form = firstBreak (modelForm (c .model-bytes));
+  first = run (c .model-bytes) (c .first);
+  second = run (c .model-bytes) (c .second);
+  right = comes requested (model (c .model-bytes)) (c .P) (choice (c .first)) (choice (c .second));
+  instead = comes (c .claim) (model (c .model-bytes)) (c .P) (choice (c .first)) (choice (c .second));
+}
+
+-- of a model that meets its form rules
+abbrev says : Run → Run → Comes → Comes → Said
+says first second right instead = record { form = none; first = first; second = second; right = right; instead = instead }
+
+abbrev runs : List ℕ → Answer Figures → Run
+runs words verdict = record { words = words; verdict = verdict }
+
+-- c 1, n 3, m 4, H 8. Every thread has period 1..65535 and release 0..9. Thread 0, sampling: priority 4. Thread 1, the alarm:
+-- priority 7. Thread 2, logging: priority 1. Every duration is 1..9. Activity 0: logging. Activity 1: sampling, delay 1.
+-- Activity 2: the alarm, temporal mask 2. Activity 3: logging, data mask 4.
+abbrev pub board : List ℕ
+board =
+    (0 ∷ 0 ∷ 0 ∷ 100 ∷ 1 ∷ 1 ∷ 3 ∷ 4 ∷ 0 ∷ 8 ∷ [])
+    ++ (0 ∷ 1 ∷ 255 ∷ 255 ∷ 0 ∷ 0 ∷ 0 ∷ 9 ∷ 0 ∷ 4 ∷ [])
+    ++ (0 ∷ 1 ∷ 255 ∷ 255 ∷ 0 ∷ 0 ∷ 0 ∷ 9 ∷ 0 ∷ 7 ∷ [])
+    ++ (0 ∷ 1 ∷ 255 ∷ 255 ∷ 0 ∷ 0 ∷ 0 ∷ 9 ∷ 0 ∷ 1 ∷ [])
+    ++ (2 ∷ 0 ∷ 1 ∷ 0 ∷ 9 ∷ 0 ∷ 0 ∷ 0 ∷ 0 ∷ 0 ∷ 0 ∷ 0 ∷ 0 ∷ 0 ∷ 0 ∷ [])
+    ++ (0 ∷ 0 ∷ 1 ∷ 0 ∷ 9 ∷ 0 ∷ 1 ∷ 0 ∷ 0 ∷ 0 ∷ 0 ∷ 0 ∷ 0 ∷ 0 ∷ 0 ∷ [])
+    ++ (1 ∷ 0 ∷ 1 ∷ 0 ∷ 9 ∷ 0 ∷ 0 ∷ 0 ∷ 0 ∷ 0 ∷ 2 ∷ 0 ∷ 0 ∷ 0 ∷ 0 ∷ [])
+    ++ (2 ∷ 0 ∷ 1 ∷ 0 ∷ 9 ∷ 0 ∷ 0 ∷ 0 ∷ 0 ∷ 0 ∷ 0 ∷ 0 ∷ 0 ∷ 0 ∷ 4 ∷ [])
+
+-- the same with two cores
+abbrev two-cores : List ℕ
+two-cores = patch 5 (2 ∷ []) board
+
+-- the alarm comes after sampling by data
+abbrev by-data : List ℕ
+by-data = patch 77 (0 ∷ 0 ∷ 0 ∷ 0 ∷ 0 ∷ 0 ∷ 0 ∷ 2 ∷ []) board
+
+-- sampling comes after activity 0 of logging
+abbrev after-logging : List ℕ
+after-logging = patch 62 (0 ∷ 0 ∷ 0 ∷ 1 ∷ []) board
+
+-- the choice with these releases of threads 0, 1 and 2 and these durations; every period is 8
+abbrev pub choose : ℕ → ℕ → ℕ → ℕ → ℕ → ℕ → ℕ → List ℕ
+choose r0 r1 r2 d0 d1 d2 d3 =
+    (0 ∷ 0 ∷ 0 ∷ 27 ∷ 1 ∷ 3 ∷ 4 ∷ [])
+    ++ (0 ∷ r0 ∷ 0 ∷ 8 ∷ 0 ∷ r1 ∷ 0 ∷ 8 ∷ 0 ∷ r2 ∷ 0 ∷ 8 ∷ [])
+    ++ (0 ∷ d0 ∷ 0 ∷ d1 ∷ 0 ∷ d2 ∷ 0 ∷ d3 ∷ [])
+
+-- sampling is released at 1, the others at 0
+abbrev base : List ℕ
+base = choose 1 0 0 2 2 1 1
+
+abbrev base-runs : Run
+base-runs = runs (1 ∷ 2 ∷ 2 ∷ 1 ∷ 4 ∷ 8 ∷ 0 ∷ 0 ∷ []) (accepts 6 8 6)
+
+-- logging is released at 3
+abbrev later-logging : List ℕ
+later-logging = choose 1 0 3 2 2 1 1
+
+abbrev later-runs : Run
+later-runs = runs (0 ∷ 2 ∷ 2 ∷ 1 ∷ 4 ∷ 1 ∷ 8 ∷ 0 ∷ []) (accepts 6 8 7)
+
+-- sampling lasts 3 ticks
+abbrev longer-sampling : List ℕ
+longer-sampling = choose 1 0 0 2 3 1 1
+
+abbrev longer-runs : Run
+longer-runs = runs (1 ∷ 2 ∷ 2 ∷ 2 ∷ 1 ∷ 4 ∷ 8 ∷ 0 ∷ []) (accepts 7 8 7)
+
+abbrev pub cases : List Case
+cases =
+    -- logging moves, and the bits of sampling and of the alarm stand
+    record {
+      model-bytes = board;
+      P = 4;
+      first = base;
+      second = later-logging;
+      claim = everyBit;
+      expected = says base-runs later-runs holds fails;
+    }
+    -- activity 0 lasts 65535 ticks and activity 3 none: outside their ranges, and never finished
+    ∷ record {
+      model-bytes = board;
+      P = 4;
+      first = base;
+      second = patch 19 (255 ∷ 255 ∷ 0 ∷ 2 ∷ 0 ∷ 1 ∷ 0 ∷ 0 ∷ []) base;
+      claim = everyBit;
+      expected = says base-runs (runs (1 ∷ 2 ∷ 2 ∷ 1 ∷ 4 ∷ 1 ∷ 1 ∷ 1 ∷ []) (refuses 13 0 0)) holds fails;
+    }
+    -- two cores, and a P that no thread has
+    ∷ record {
+      model-bytes = two-cores;
+      P = 3;
+      first = base;
+      second = later-logging;
+      claim = everyBit;
+      expected =
+          says (runs (1 ∷ 3 ∷ 2 ∷ 0 ∷ 4 ∷ 8 ∷ 0 ∷ 0 ∷ []) (accepts 6 16 6))
+          (runs (0 ∷ 2 ∷ 2 ∷ 1 ∷ 5 ∷ 8 ∷ 0 ∷ 0 ∷ []) (accepts 6 16 6)) holds fails;
+    }
+    -- P above all priorities: nothing is asked for and nothing promised
+    ∷ record {
+      model-bytes = board;
+      P = 8;
+      first = base;
+      second = choose 5 6 7 9 9 9 9;
+      claim = everyBit;
+      expected = says base-runs (runs (0 ∷ 0 ∷ 0 ∷ 0 ∷ 0 ∷ 2 ∷ 2 ∷ 2 ∷ []) (refuses 42 0 0)) holds fails;
+    }
+    -- P below all: two choices that differ in every period give the same words
+    ∷ record {
+      model-bytes = board;
+      P = 0;
+      first = base;
+      second = patch 7 (0 ∷ 1 ∷ 255 ∷ 255 ∷ 0 ∷ 0 ∷ 0 ∷ 1 ∷ 0 ∷ 0 ∷ 0 ∷ 9 ∷ []) base;
+      claim = everyBit;
+      expected = says base-runs (runs (1 ∷ 2 ∷ 2 ∷ 1 ∷ 4 ∷ 8 ∷ 0 ∷ 0 ∷ []) (refuses 43 2 0)) holds holds;
+    }
+    -- P below all: everything has to agree
+    ∷ record {
+      model-bytes = board;
+      P = 0;
+      first = base;
+      second = later-logging;
+      claim = withoutReleases;
+      expected = says base-runs later-runs silent fails;
+    }
+    -- P at the lowest priority, which is logging's
+    ∷ record {
+      model-bytes = board;
+      P = 1;
+      first = base;
+      second = later-logging;
+      claim = releasesAbove;
+      expected = says base-runs later-runs silent fails;
+    }
+    -- sampling, which is below 7, precedes the alarm
+    ∷ record {
+      model-bytes = board;
+      P = 7;
+      first = base;
+      second = longer-sampling;
+      claim = dataOnly;
+      expected = says base-runs longer-runs silent fails;
+    }
+    -- the same by data
+    ∷ record {
+      model-bytes = by-data;
+      P = 7;
+      first = base;
+      second = longer-sampling;
+      claim = temporalOnly;
+      expected =
+          says (runs (1 ∷ 2 ∷ 2 ∷ 4 ∷ 1 ∷ 8 ∷ 0 ∷ 0 ∷ []) (accepts 6 8 6))
+          (runs (1 ∷ 2 ∷ 2 ∷ 2 ∷ 4 ∷ 1 ∷ 8 ∷ 0 ∷ []) (accepts 7 8 7)) silent fails;
+    }
+    -- logging precedes sampling, which is at 4
+    ∷ record {
+      model-bytes = after-logging;
+      P = 4;
+      first = base;
+      second = later-logging;
+      claim = precededAbove;
+      expected =
+          says (runs (1 ∷ 1 ∷ 2 ∷ 2 ∷ 0 ∷ 4 ∷ 8 ∷ 0 ∷ []) (accepts 6 8 7))
+          (runs (0 ∷ 0 ∷ 0 ∷ 1 ∷ 1 ∷ 2 ∷ 2 ∷ 0 ∷ []) (refuses 42 2 0)) silent fails;
+    }
+    -- sampling, at 4, lasts longer
+    ∷ record {
+      model-bytes = board;
+      P = 4;
+      first = base;
+      second = longer-sampling;
+      claim = durationsAbove;
+      expected = says base-runs longer-runs silent fails;
+    }
+    -- the alarm lasts longer, and is above 4
+    ∷ record {
+      model-bytes = board;
+      P = 4;
+      first = base;
+      second = choose 1 0 0 2 2 2 1;
+      claim = withoutDurations;
+      expected = says base-runs (runs (1 ∷ 2 ∷ 2 ∷ 1 ∷ 4 ∷ 4 ∷ 8 ∷ 0 ∷ []) (accepts 7 8 7)) silent fails;
+    }
+    -- activities 0 and 1 have the numbers of threads 0 and 1, and activity 2, the alarm, that of logging
+    ∷ record {
+      model-bytes = board;
+      P = 4;
+      first = choose 1 0 0 4 2 1 1;
+      second = choose 1 0 0 4 2 2 1;
+      claim = byNumber;
+      expected =
+          says (runs (1 ∷ 2 ∷ 2 ∷ 1 ∷ 4 ∷ 1 ∷ 1 ∷ 8 ∷ []) (accepts 8 8 8))
+          (runs (1 ∷ 2 ∷ 2 ∷ 1 ∷ 4 ∷ 4 ∷ 1 ∷ 1 ∷ []) (refuses 42 3 0)) silent fails;
+    }
+    ∷ []
+
+-- what is expected of every case is said of it
+pub urgent-cases : map said cases ≡ map (λ c. c .expected) cases
+unfolding every
+urgent-cases = refl
