@@ -7,17 +7,14 @@ use mathlib.Core.Path.{_≡_, sym, ap, subst, _∙_}
 use lib.ListN.{length, take}
 use Rattle.schedule.specs.Fields.{Bytes}
 use Rattle.schedule.specs.Rule.{Refusal}
-use Rattle.schedule.specs.Model.{model, modelForm}
-use Rattle.schedule.specs.Choice.{choiceForm}
 use Rattle.schedule.specs.Answers.{accepted, refused, Written, plainVerdict, strictVerdict}
-use Rattle.schedule.specs.Answers.{runChecks, runAnswer, runBuffer}
+use Rattle.schedule.specs.Answers.{runAnswer, runBuffer}
 use Rattle.schedule.specs.Numbers.{refusalNumbers, verdictNumbers, writtenNumbers}
 use Rattle.schedule.specs.declared.RunVerdict.{RunVerdict}
-use Rattle.laws.proofs.FirstBreak.{hold-append}
 use Rattle.laws.proofs.NumbersLaws.{refusal-injective, verdict-injective, run-verdict-injective}
 use Rattle.demands.specs.Strict.{PassesWith, planWritten, SingleStrictPlan}
 use Rattle.demands.proofs.Demand3.{demand-3}
-use Rattle.demands.proofs.Page.{checked, roomy}
+use Rattle.demands.proofs.Page.{formed, tested, roomy}
 use Rattle.checked_run.specs.declared.Checked.{Checked}
 use Rattle.checked_run.specs.Checked.{CheckedRun, checkedNumbers, ran, sent-back, checkedOf, checkedRun, OnlyPlan, KeepsDemand3}
 
@@ -45,10 +42,9 @@ module _ (s q old new : List ℕ) (bytes : Bytes q) (left : new ≡ runBuffer s 
   module _ (w : Written) (e : runAnswer s q (length old) ≡ accepted w) where
     -- demand 3 of a run that succeeds
     single : SingleStrictPlan s q old
-    unfolding runChecks
     single =
-        let both = hold-append (modelForm s) (choiceForm (model s) q) .0 (checked s q (length old) w e) in
-        demand-3 s q old bytes (both .0) (both .1) (roomy s q (length old) w e)
+        let room : ℕ = length old in
+        demand-3 s q old bytes (formed s q room w e) (tested s q room w e) (roomy s q room w e)
 
     wrote : planWritten s q old w ≡ take (w .length) new
     wrote = ap (take (w .length)) (sym left)

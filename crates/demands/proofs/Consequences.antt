@@ -15,7 +15,7 @@ use Rattle.schedule.specs.Fields.{Bytes}
 use Rattle.schedule.specs.Rule.{Refusal, FirstBroken}
 use Rattle.schedule.specs.Model.{Model, model, modelForm, modelLength}
 use Rattle.schedule.specs.Timing.{Timing, InTime}
-use Rattle.schedule.specs.Choice.{choice, choiceForm, choiceLength}
+use Rattle.schedule.specs.Choice.{choice, choiceLength}
 use Rattle.schedule.specs.Plan.{plan, planForm, planBytes, planLength}
 use Rattle.schedule.specs.Machine.{machineWord}
 use Rattle.schedule.specs.Checks.{efeFrom, efe, plainRules, strictRules}
@@ -30,7 +30,6 @@ use Rattle.schedule.specs.Answers.{
   machinePlan,
   Written,
   lengthNeeded,
-  runChecks,
   runAnswer,
   MeetsForm,
   WellFormed,
@@ -47,8 +46,8 @@ use Rattle.view.proofs.HeldLaws.{grid-gives}
 use Rattle.demands.specs.Efe.{Largest}
 use Rattle.demands.specs.Strict.{HasChoices, planWritten}
 use Rattle.demands.proofs.Demand2.{plain-accepted, plain-keeps, strict-breaks-rule, strict-passes-rules}
-use Rattle.demands.proofs.Demand3.{demand-3, back, settled-by, its-plan}
-use Rattle.demands.proofs.Page.{checked, roomy}
+use Rattle.demands.proofs.Demand3.{demand-3, back, its-plan}
+use Rattle.demands.proofs.Page.{formed, tested, roomy, settles}
 
 -- ---- the paper's formulas, from the places of a record's parts
 
@@ -162,17 +161,18 @@ view-whole s r formed well =
 pub written-view : (s q buffer : List ℕ) → Bytes q → (w : Written) → runAnswer s q (length buffer) ≡ accepted w
     → (t : ℕ) → viewWord s (planWritten s q buffer w) t
     ≡ cond (ltb t (model s .horizon)) (word (machineWord (model s) (choice q .release) (choice q .duration) t)) past
-unfolding runChecks viewWord machinePlan
+unfolding viewWord machinePlan
 written-view s q buffer bytes w e t =
-    let both = hold-append (modelForm s) (choiceForm (model s) q) .0 (checked s q (length buffer) w e) in
-    let fits = roomy s q (length buffer) w e in
-    let passes = demand-3 s q buffer bytes (both .0) (both .1) fits .strict w e in
-    let settles = settled-by s q bytes (both .0) (both .1) buffer fits w e in
-    let read = back s q bytes (both .0) (both .1) settles in
-    let same = its-plan s q bytes (both .0) (both .1) buffer fits w e in
+    let room : ℕ = length buffer in
+    let form = formed s q room w e in
+    let test = tested s q room w e in
+    let fits = roomy s q room w e in
+    let passes = demand-3 s q buffer bytes form test fits .strict w e in
+    let read = back s q bytes form test (settles s q room w e) in
+    let same = its-plan s q bytes form test buffer fits w e in
     let wrote : List ℕ = planWritten s q buffer w in
     ap (λ (o : Option Refusal). orPast o (cond (ltb t (plan wrote .horizon)) (word (plan wrote .word t)) past))
-    (view-whole s wrote (both .0) (passes .well-formed))
+    (view-whole s wrote form (passes .well-formed))
     ∙ ap (λ (r : List ℕ). cond (ltb t (plan r .horizon)) (word (plan r .word t)) past) same
     ∙ ap (λ (h : ℕ). cond (ltb t h) (word (plan (planBytes (machinePlan (model s) (choice q))) .word t)) past) (read .horizon)
     ∙ below-same t (model s .horizon) (λ l. ap word (read .word t l))

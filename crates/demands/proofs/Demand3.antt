@@ -185,7 +185,7 @@ module _ (s q : List ℕ) (q-bytes : Bytes q) (formed : AllHold (modelForm s))
   checked = hold-append (modelForm s) (choiceForm (model s) q) .1 (formed, tested)
 
   module _ (buffer : List ℕ) (fits : lengthNeeded (model s) ≤ length buffer) where
-    pub settled-by : (w : Written) → runAnswer s q (length buffer) ≡ accepted w → AllHold (runRules (model s) (choice q))
+    settled-by : (w : Written) → runAnswer s q (length buffer) ≡ accepted w → AllHold (runRules (model s) (choice q))
     settled-by w e = run-accepted s q (length buffer) w checked fits .0 e .0
 
     its-figures : (w : Written) → runAnswer s q (length buffer) ≡ accepted w

@@ -63,7 +63,7 @@ use Rattle.demands.proofs.Demand2.{
   run-refused,
 }
 use Rattle.demands.proofs.Demand3.{demand-3}
-use Rattle.demands.proofs.Page.{checked, roomy}
+use Rattle.demands.proofs.Page.{formed, tested, roomy}
 
 -- ---- refusals
 
@@ -224,9 +224,9 @@ run-short s q room bytes = by (runAnswer s q room) refl
     -- a run that succeeds answers the figures of a plan that passes the strict check
     passed : (w : Written) → runAnswer s q (length zeros) ≡ accepted w → ShortFigures (w .figures)
     passed w e =
-        let all = checked s q (length zeros) w e in
-        let both = hold-append (modelForm s) (choiceForm (model s) q) .0 all in
-        let single = demand-3 s q zeros bytes (both .0) (both .1) (roomy s q (length zeros) w e) in
+        let form = formed s q (length zeros) w e in
+        let test = tested s q (length zeros) w e in
+        let single = demand-3 s q zeros bytes form test (roomy s q (length zeros) w e) in
         subst ShortAnswer (single .strict w e .strict) (strict-short s _)
 
     -- a run whose input passes refuses for want of room, or by 42 or 43
@@ -262,7 +262,7 @@ last-most (refused x) h = omega (arith, shown-most (refused x) h)
 
 -- gridrun's page has at most 57,390 bytes
 pub gridrun-fits : (input : List ℕ) → Bytes input → length (gridrun input) ≤ 57390
-unfolding gridrun runLines machinePlan runChecks
+unfolding gridrun runLines machinePlan
 gridrun-fits input bytes =
     let s = firstRecord (taken input) in
     let q = secondRecord (taken input) in
@@ -271,8 +271,7 @@ gridrun-fits input bytes =
     by : (s q : List ℕ) (v : Answer Written) → runAnswer s q runRoom ≡ v → ShortRun v
         → length (runLines v (machinePlan (model s) (choice q))) ≤ 57390
     by s q (accepted w) e h =
-        let all = checked s q runRoom w e in
-        let l = form-limited s (hold-append (modelForm s) (choiceForm (model s) q) .0 all .0) in
+        let l = form-limited s (formed s q runRoom w e) in
         simp length-append
         (omega (
           arith,

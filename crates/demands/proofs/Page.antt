@@ -1,5 +1,6 @@
--- The page that `gridrun` prints: its lines, made of the run's answer and of the buffer that the run leaves, are those of
--- the machine's plan, whatever else stands in the buffer.
+-- What a run that succeeds has passed, and what it wrote: the machine's page; and the page that `gridrun` prints: its lines,
+-- made of the run's answer and of the buffer that the run leaves, are those of the machine's plan, whatever else stands in
+-- the buffer.
 -- Assumes nothing.
 use Prim.Native.Nat.{ℕ, _≤_, _<_}
 use native.Mathlib.Decide.{decLt}
@@ -21,9 +22,12 @@ use Rattle.schedule.specs.Answers.{
   Written,
   machinePlan,
   lengthNeeded,
+  runRules,
   runChecks,
   runAnswer,
   runBuffer,
+  MeetsForm,
+  PassesTests,
 }
 use Rattle.schedule.specs.Lines.{shown, tickLine, runLines}
 use Rattle.laws.proofs.Exists.{Made}
@@ -34,15 +38,23 @@ use Rattle.laws.proofs.FirstBreak.{hold-append}
 use Rattle.laws.proofs.VerdictLaws.{accepted-is-not-refused}
 use Rattle.demands.specs.Strict.{planWritten}
 use Rattle.demands.proofs.Demand2.{run-input, run-input-refused, run-short-buffer, run-accepted, buffer-accepted}
-use Rattle.demands.proofs.Demand3.{machine-fits, made, settled-by, its-plan}
+use Rattle.demands.proofs.Demand3.{machine-fits, made, its-plan}
 
 -- what a run that succeeds has passed
 module _ (s q : List ℕ) (room : ℕ) (w : Written) (e : runAnswer s q room ≡ accepted w) where
-  pub checked : AllHold (runChecks s q)
+  checked : AllHold (runChecks s q)
   checked =
       ⊎-elim (λ h. h)
       (λ b. absurd (accepted-is-not-refused w (b .0) (sym e ∙ run-input-refused s q room (b .0) (b .1))))
       (run-input s q)
+
+  pub formed : MeetsForm s
+  unfolding runChecks
+  formed = hold-append (modelForm s) (choiceForm (model s) q) .0 checked .0
+
+  pub tested : PassesTests s q
+  unfolding runChecks
+  tested = hold-append (modelForm s) (choiceForm (model s) q) .0 checked .1
 
   pub roomy : lengthNeeded (model s) ≤ room
   roomy =
@@ -51,27 +63,27 @@ module _ (s q : List ℕ) (room : ℕ) (w : Written) (e : runAnswer s q room ≡
         | no l ↦ omega arith
       ]
 
+  pub settles : AllHold (runRules (model s) (choice q))
+  settles = run-accepted s q room w checked roomy .0 e .0
+
 -- the plan that a successful run wrote has the machine's words, starts and ends
 pub written-made : (s q buffer : List ℕ) → Bytes q → (w : Written) → runAnswer s q (length buffer) ≡ accepted w
     → Made (model s) (choice q .release) (choice q .duration) (plan (planWritten s q buffer w))
-unfolding runChecks
 written-made s q buffer bytes w e =
-    let both = hold-append (modelForm s) (choiceForm (model s) q) .0 (checked s q (length buffer) w e) in
-    let fits = roomy s q (length buffer) w e in
+    let form = formed s q (length buffer) w e in
+    let test = tested s q (length buffer) w e in
     subst (λ (r : List ℕ). Made (model s) (choice q .release) (choice q .duration) (plan r))
-    (sym (its-plan s q bytes (both .0) (both .1) buffer fits w e))
-    (made s q bytes (both .0) (both .1) (settled-by s q bytes (both .0) (both .1) buffer fits w e))
+    (sym (its-plan s q bytes form test buffer (roomy s q (length buffer) w e) w e))
+    (made s q bytes form test (settles s q (length buffer) w e))
 
 -- the machine's plan is read from the front of the buffer
 read-from-buffer : (s q buffer : List ℕ) → Bytes q → (w : Written) → runAnswer s q (length buffer) ≡ accepted w
     → ReadsFrom (machinePlan (model s) (choice q)) (planBytes (machinePlan (model s) (choice q)) ++ drop (w .length) buffer)
-unfolding runChecks
 read-from-buffer s q buffer bytes w e =
     let p : Plan = machinePlan (model s) (choice q) in
-    let all = checked s q (length buffer) w e in
-    let both = hold-append (modelForm s) _ .0 all in
-    let settles = run-accepted s q (length buffer) w all (roomy s q (length buffer) w e) .0 e .0 in
-    reads-from p (machine-fits s q bytes (both .0) (both .1) settles) (planBytes p ++ drop (w .length) buffer)
+    let room : ℕ = length buffer in
+    let fits = machine-fits s q bytes (formed s q room w e) (tested s q room w e) (settles s q room w e) in
+    reads-from p fits (planBytes p ++ drop (w .length) buffer)
     (stands-first (planBytes p ++ drop (w .length) buffer) 0 (planBytes p) (drop (w .length) buffer)
     (stands-whole (planBytes p ++ drop (w .length) buffer)))
 

@@ -14,44 +14,40 @@ use Rattle.schedule.specs.Model.{Model, model}
 use Rattle.schedule.specs.Choice.{Choice, choice}
 use Rattle.schedule.specs.Machine.{State, ready, machineStart, machineEnd}
 use Rattle.laws.proofs.Counting.{weight}
-use Rattle.laws.proofs.Formed.{model-says, input-formed}
+use Rattle.laws.proofs.Formed.{model-says}
 use Rattle.laws.proofs.Lowest.{lowest-ext}
 use Rattle.laws.proofs.MachineLaws.{SameFor, ready-local, at, owes-first, end-first, owes-next, end-next, runs-selected}
 use Rattle.laws.proofs.Selection.{Before, selected-local}
-use Rattle.demands.specs.Urgent.{Below, AtOrAbove, Apart, Alike, machineBit, Unaffected, PagesStand}
-use Rattle.demands.proofs.Page.{checked, written-made}
+use Rattle.demands.specs.Urgent.{Below, Urgent, Apart, Alike, machineBit, Unaffected, PagesStand}
+use Rattle.demands.proofs.Page.{formed, written-made}
 
 module _ (m : Model) (owner : (a : ℕ) → a < m .activities → m .thread a < m .threads)
     (P : ℕ) (apart : Apart m P) (q q′ : Choice) (alike : Alike m P q q′) where
-  -- activity a is of a thread at or above P
-  abbrev Urgent : ℕ → Type 0
-  Urgent a = AtOrAbove m P (m .thread a)
-
   abbrev state : Choice → ℕ → State
   state c t = at m (c .release) (c .duration) t
 
-  -- what precedes one of them is one of them
-  urgent-predecessor : (b : ℕ) → (¬ Below m P (m .thread b)) → Urgent b
-  urgent-predecessor b h = omega arith
+  -- what is not below P is at or above it
+  not-below : (b : ℕ) → (¬ Below m P (m .thread b)) → Urgent m P b
+  not-below b h = omega arith
 
-  -- and so is what ranks before one of them
-  urgent-before : (b a : ℕ) → Before m b a → Urgent a → Urgent b
+  -- what ranks before an urgent activity is urgent
+  urgent-before : (b a : ℕ) → Before m b a → Urgent m P a → Urgent m P b
   unfolding Before
   urgent-before b a (inl above) u = omega arith
   urgent-before b a (inr level) u = omega arith
 
-  -- the states of tick t are the same for each of them
+  -- the states of tick t are the same for each urgent activity
   abbrev Same : ℕ → Type 0
-  Same t = (a : ℕ) → a < m .activities → Urgent a → SameFor (state q t) (state q′ t) a
+  Same t = (a : ℕ) → a < m .activities → Urgent m P a → SameFor (state q t) (state q′ t) a
 
-  ready-alike : (t : ℕ) → Same t → (a : ℕ) → a < m .activities → Urgent a
+  ready-alike : (t : ℕ) → Same t → (a : ℕ) → a < m .activities → Urgent m P a
       → ready m (q .release) t (state q t) a ≡ ready m (q′ .release) t (state q′ t) a
   ready-alike t same a l u =
       ready-local m (q .release) (q′ .release) t _ _ a (same a l u .owed) (alike .releases (m .thread a) (owner a l) u)
-      (λ b lb x. same b lb (urgent-predecessor b (λ low. apart .temporal b a lb l low u x)))
-      (λ b lb x. same b lb (urgent-predecessor b (λ low. apart .by-data b a lb l low u x)))
+      (λ b lb x. same b lb (not-below b (λ low. apart .temporal b a lb l low u x)))
+      (λ b lb x. same b lb (not-below b (λ low. apart .by-data b a lb l low u x)))
 
-  runs-alike : (t : ℕ) → Same t → (a : ℕ) → a < m .activities → Urgent a
+  runs-alike : (t : ℕ) → Same t → (a : ℕ) → a < m .activities → Urgent m P a
       → machineBit m q t a ≡ machineBit m q′ t a
   runs-alike t same a l u =
       runs-selected m (q .release) (q .duration) t a l
@@ -84,27 +80,27 @@ module _ (m : Model) (owner : (a : ℕ) → a < m .activities → m .thread a < 
                 ∙ sym (end-next m (q′ .release) (q′ .duration) t a l);
           }
 
-  words-alike : (t a : ℕ) → a < m .activities → Urgent a
+  words-alike : (t a : ℕ) → a < m .activities → Urgent m P a
       → machineBit m q t a ≡ machineBit m q′ t a
   words-alike t a l u = runs-alike t (always-same t) a l u
 
-  starts-alike : (a : ℕ) → a < m .activities → Urgent a
+  starts-alike : (a : ℕ) → a < m .activities → Urgent m P a
       → machineStart m (q .release) (q .duration) a ≡ machineStart m (q′ .release) (q′ .duration) a
   unfolding machineStart
   starts-alike a l u = lowest-ext (m .horizon) _ _ (λ t _. words-alike t a l u)
 
-  ends-alike : (a : ℕ) → a < m .activities → Urgent a
+  ends-alike : (a : ℕ) → a < m .activities → Urgent m P a
       → machineEnd m (q .release) (q .duration) a ≡ machineEnd m (q′ .release) (q′ .duration) a
   unfolding machineEnd
   ends-alike a l u = always-same (m .horizon) a l u .end
 
 pub unaffected : Unaffected
-unaffected s P q q′ formed apart alike t a l u = words-alike (model s) (model-says s formed .owner) P apart q q′ alike t a l u
+unaffected s P q q′ form apart alike t a l u = words-alike (model s) (model-says s form .owner) P apart q q′ alike t a l u
 
 pub pages-stand : PagesStand
 pages-stand s q q′ buffer buffer′ P bytes bytes′ apart alike w w′ e e′ =
     let m : Model = model s in
-    let owner = input-formed s q (checked s q (length buffer) w e) .owner in
+    let owner = model-says s (formed s q (length buffer) w e) .owner in
     let one = written-made s q buffer bytes w e in
     let other = written-made s q′ buffer′ bytes′ w′ e′ in
     record {

@@ -5,15 +5,11 @@
 use Prim.Native.Nat.{ℕ}
 use mathlib.Core.Bool.{Bool, true, false}
 use mathlib.Core.List.{List, [], _∷_, _++_, map}
-use mathlib.Core.Option.{Option, none}
 use mathlib.Core.Path.{_≡_, refl}
-use Rattle.schedule.specs.Bounded.{table}
-use Rattle.schedule.specs.Rule.{Refusal, firstBreak}
-use Rattle.schedule.specs.Model.{Model, model, modelForm}
+use Rattle.schedule.specs.Model.{Model, model}
 use Rattle.schedule.specs.Choice.{Choice, choice}
-use Rattle.schedule.specs.Machine.{machineWord}
-use Rattle.schedule.specs.Answers.{Answer, Figures, lengthNeeded, runAnswer}
-use Rattle.schedule.specs.Cases.{every, patch, accepts, refuses, printed}
+use Rattle.schedule.specs.Answers.{Answer, Figures}
+use Rattle.schedule.specs.Cases.{every, patch, accepts, refuses, words, run, Saying, verdict, numbers, said}
 use Rattle.demands.proofs.UrgentClaims.{
   Claim,
   asks,
@@ -24,6 +20,7 @@ use Rattle.demands.proofs.UrgentClaims.{
   precededAbove,
   releasesAbove,
   durationsAbove,
+  aboveEverywhere,
   withoutReleases,
   withoutDurations,
   everyBit,
@@ -36,7 +33,7 @@ pub record Comes : Type 0 where
   pub given : Bool
   pub kept : Bool
 
-abbrev pub comes : Claim → Model → ℕ → Choice → Choice → Comes
+abbrev comes : Claim → Model → ℕ → Choice → Choice → Comes
 comes c m P q q′ = record { given = asks c m P q q′; kept = agree c m P q q′ }
 
 -- it promises these bits, and they agree; it promises nothing, and they differ; it is false
@@ -49,25 +46,23 @@ silent = record { given = false; kept = false }
 abbrev fails : Comes
 fails = record { given = true; kept = false }
 
--- the words that the machine makes of a choice, and whether the run accepts them
-pub record Run : Type 0 where
-  pub words : List ℕ
-  pub verdict : Answer Figures
+-- What the machine makes of a choice: its words, and the run's verdict. None is of 1 to 7: every model meets its form rules.
+pub record Ran : Type 0 where
+  pub words : Saying
+  pub verdict : Saying
 
-abbrev pub run : List ℕ → List ℕ → Run
-run s q = record {
-  words = table (model s .horizon) (machineWord (model s) (choice q .release) (choice q .duration));
-  verdict = printed (runAnswer s q (lengthNeeded (model s)));
-}
+abbrev runs : List ℕ → Answer Figures → Ran
+runs ws v = record { words = numbers ws; verdict = verdict v }
 
--- What is said of a model, a P and two choices: the first form rule that the model breaks, both runs, what the request's
--- claim comes to, and what another does.
+-- What is said of a model, a P and two choices: both runs, what the request's claim comes to, and what another does.
 pub record Said : Type 0 where
-  pub form : Option Refusal
-  pub first : Run
-  pub second : Run
+  pub first : Ran
+  pub second : Ran
   pub right : Comes
   pub instead : Comes
+
+abbrev says : Ran → Ran → Comes → Comes → Said
+says first second right instead = record { first = first; second = second; right = right; instead = instead }
 
 pub record Case : Type 0 where
   pub model-bytes : List ℕ
@@ -77,26 +72,21 @@ pub record Case : Type 0 where
   pub claim : Claim
   pub expected : Said
 
-abbrev pub said : Case → Said
-said c = record {
-  form = firstBreak (modelForm (c .model-bytes));
-  first = run (c .model-bytes) (c .first);
-  second = run (c .model-bytes) (c .second);
-  right = comes requested (model (c .model-bytes)) (c .P) (choice (c .first)) (choice (c .second));
-  instead = comes (c .claim) (model (c .model-bytes)) (c .P) (choice (c .first)) (choice (c .second));
-}
-
--- of a model that meets its form rules
-abbrev says : Run → Run → Comes → Comes → Said
-says first second right instead = record { form = none; first = first; second = second; right = right; instead = instead }
-
-abbrev runs : List ℕ → Answer Figures → Run
-runs words verdict = record { words = words; verdict = verdict }
+abbrev answered : Case → Said
+answered c =
+    let s : List ℕ = c .model-bytes in
+    let comes-to : Claim → Comes = λ x. comes x (model s) (c .P) (choice (c .first)) (choice (c .second)) in
+    record {
+      first = record { words = said (words s (c .first)); verdict = said (run s (c .first)) };
+      second = record { words = said (words s (c .second)); verdict = said (run s (c .second)) };
+      right = comes-to requested;
+      instead = comes-to (c .claim);
+    }
 
 -- c 1, n 3, m 4, H 8. Every thread has period 1..65535 and release 0..9. Thread 0, sampling: priority 4. Thread 1, the alarm:
 -- priority 7. Thread 2, logging: priority 1. Every duration is 1..9. Activity 0: logging. Activity 1: sampling, delay 1.
 -- Activity 2: the alarm, temporal mask 2. Activity 3: logging, data mask 4.
-abbrev pub board : List ℕ
+abbrev board : List ℕ
 board =
     (0 ∷ 0 ∷ 0 ∷ 100 ∷ 1 ∷ 1 ∷ 3 ∷ 4 ∷ 0 ∷ 8 ∷ [])
     ++ (0 ∷ 1 ∷ 255 ∷ 255 ∷ 0 ∷ 0 ∷ 0 ∷ 9 ∷ 0 ∷ 4 ∷ [])
@@ -112,15 +102,19 @@ abbrev two-cores : List ℕ
 two-cores = patch 5 (2 ∷ []) board
 
 -- the alarm comes after sampling by data
-abbrev by-data : List ℕ
-by-data = patch 77 (0 ∷ 0 ∷ 0 ∷ 0 ∷ 0 ∷ 0 ∷ 0 ∷ 2 ∷ []) board
+abbrev alarm-by-data : List ℕ
+alarm-by-data = patch 77 (0 ∷ 0 ∷ 0 ∷ 0 ∷ 0 ∷ 0 ∷ 0 ∷ 2 ∷ []) board
 
 -- sampling comes after activity 0 of logging
 abbrev after-logging : List ℕ
 after-logging = patch 62 (0 ∷ 0 ∷ 0 ∷ 1 ∷ []) board
 
+-- logging has the priority of sampling
+abbrev level : List ℕ
+level = patch 38 (0 ∷ 4 ∷ []) board
+
 -- the choice with these releases of threads 0, 1 and 2 and these durations; every period is 8
-abbrev pub choose : ℕ → ℕ → ℕ → ℕ → ℕ → ℕ → ℕ → List ℕ
+abbrev choose : ℕ → ℕ → ℕ → ℕ → ℕ → ℕ → ℕ → List ℕ
 choose r0 r1 r2 d0 d1 d2 d3 =
     (0 ∷ 0 ∷ 0 ∷ 27 ∷ 1 ∷ 3 ∷ 4 ∷ [])
     ++ (0 ∷ r0 ∷ 0 ∷ 8 ∷ 0 ∷ r1 ∷ 0 ∷ 8 ∷ 0 ∷ r2 ∷ 0 ∷ 8 ∷ [])
@@ -130,24 +124,24 @@ choose r0 r1 r2 d0 d1 d2 d3 =
 abbrev base : List ℕ
 base = choose 1 0 0 2 2 1 1
 
-abbrev base-runs : Run
+abbrev base-runs : Ran
 base-runs = runs (1 ∷ 2 ∷ 2 ∷ 1 ∷ 4 ∷ 8 ∷ 0 ∷ 0 ∷ []) (accepts 6 8 6)
 
 -- logging is released at 3
 abbrev later-logging : List ℕ
 later-logging = choose 1 0 3 2 2 1 1
 
-abbrev later-runs : Run
+abbrev later-runs : Ran
 later-runs = runs (0 ∷ 2 ∷ 2 ∷ 1 ∷ 4 ∷ 1 ∷ 8 ∷ 0 ∷ []) (accepts 6 8 7)
 
 -- sampling lasts 3 ticks
 abbrev longer-sampling : List ℕ
 longer-sampling = choose 1 0 0 2 3 1 1
 
-abbrev longer-runs : Run
+abbrev longer-runs : Ran
 longer-runs = runs (1 ∷ 2 ∷ 2 ∷ 2 ∷ 1 ∷ 4 ∷ 8 ∷ 0 ∷ []) (accepts 7 8 7)
 
-abbrev pub cases : List Case
+abbrev cases : List Case
 cases =
     -- logging moves, and the bits of sampling and of the alarm stand
     record {
@@ -166,6 +160,26 @@ cases =
       second = patch 19 (255 ∷ 255 ∷ 0 ∷ 2 ∷ 0 ∷ 1 ∷ 0 ∷ 0 ∷ []) base;
       claim = everyBit;
       expected = says base-runs (runs (1 ∷ 2 ∷ 2 ∷ 1 ∷ 4 ∷ 1 ∷ 1 ∷ 1 ∷ []) (refuses 13 0 0)) holds fails;
+    }
+    -- logging is released at 65535, outside its range
+    ∷ record {
+      model-bytes = board;
+      P = 4;
+      first = base;
+      second = patch 15 (255 ∷ 255 ∷ []) base;
+      claim = everyBit;
+      expected = says base-runs (runs (0 ∷ 2 ∷ 2 ∷ 0 ∷ 4 ∷ 0 ∷ 0 ∷ 0 ∷ []) (refuses 12 2 0)) holds fails;
+    }
+    -- the alarm follows sampling at once, before logging
+    ∷ record {
+      model-bytes = alarm-by-data;
+      P = 4;
+      first = base;
+      second = later-logging;
+      claim = everyBit;
+      expected =
+          says (runs (1 ∷ 2 ∷ 2 ∷ 4 ∷ 1 ∷ 8 ∷ 0 ∷ 0 ∷ []) (accepts 6 8 6))
+          (runs (0 ∷ 2 ∷ 2 ∷ 4 ∷ 1 ∷ 1 ∷ 8 ∷ 0 ∷ []) (accepts 6 8 7)) holds fails;
     }
     -- two cores, and a P that no thread has
     ∷ record {
@@ -225,7 +239,7 @@ cases =
     }
     -- the same by data
     ∷ record {
-      model-bytes = by-data;
+      model-bytes = alarm-by-data;
       P = 7;
       first = base;
       second = longer-sampling;
@@ -245,14 +259,25 @@ cases =
           says (runs (1 ∷ 1 ∷ 2 ∷ 2 ∷ 0 ∷ 4 ∷ 8 ∷ 0 ∷ []) (accepts 6 8 7))
           (runs (0 ∷ 0 ∷ 0 ∷ 1 ∷ 1 ∷ 2 ∷ 2 ∷ 0 ∷ []) (refuses 42 2 0)) silent fails;
     }
-    -- sampling, at 4, lasts longer
+    -- sampling, at 4, lasts longer, and precedes the alarm
     ∷ record {
       model-bytes = board;
       P = 4;
       first = base;
       second = longer-sampling;
-      claim = durationsAbove;
+      claim = aboveEverywhere;
       expected = says base-runs longer-runs silent fails;
+    }
+    -- logging, at 4 too and with the lower number, lasts longer, and sampling has to wait
+    ∷ record {
+      model-bytes = level;
+      P = 4;
+      first = base;
+      second = choose 1 0 0 3 2 1 1;
+      claim = durationsAbove;
+      expected =
+          says (runs (1 ∷ 1 ∷ 2 ∷ 2 ∷ 0 ∷ 4 ∷ 8 ∷ 0 ∷ []) (accepts 6 8 7))
+          (runs (1 ∷ 1 ∷ 1 ∷ 2 ∷ 2 ∷ 0 ∷ 4 ∷ 8 ∷ []) (accepts 7 8 8)) silent fails;
     }
     -- the alarm lasts longer, and is above 4
     ∷ record {
@@ -263,7 +288,8 @@ cases =
       claim = withoutDurations;
       expected = says base-runs (runs (1 ∷ 2 ∷ 2 ∷ 1 ∷ 4 ∷ 4 ∷ 8 ∷ 0 ∷ []) (accepts 7 8 7)) silent fails;
     }
-    -- activities 0 and 1 have the numbers of threads 0 and 1, and activity 2, the alarm, that of logging
+    -- activities 0 and 1 have the numbers of threads 0 and 1, which are at or above 4, and activity 2, the alarm, that of
+    -- logging; no thread has number 3, and what stands behind the thread rows reads as priority 0
     ∷ record {
       model-bytes = board;
       P = 4;
@@ -276,7 +302,6 @@ cases =
     }
     ∷ []
 
--- what is expected of every case is said of it
-pub urgent-cases : map said cases ≡ map (λ c. c .expected) cases
+pub urgent-cases : map answered cases ≡ map (λ c. c .expected) cases
 unfolding every
 urgent-cases = refl

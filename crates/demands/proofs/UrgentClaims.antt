@@ -1,5 +1,5 @@
 -- Claims like that of "Urgent threads don't notice the others" (U3 of 02): the request's, with tests of what it asks for and of
--- what it promises, and some that differ from it in one thing. UrgentCases has records on which each of these is false.
+-- what it promises, and others that differ from it in one thing. UrgentCases has records on which each of the others is false.
 -- Assumes nothing.
 use Prim.Native.Nat.{ℕ, _≤_, _<_}
 use mathlib.Core.Bool.{Bool, true, false, _&&_, _||_, not}
@@ -13,11 +13,12 @@ use Rattle.schedule.specs.Choice.{Choice}
 use Rattle.schedule.specs.Answers.{MeetsForm}
 use Rattle.laws.proofs.Tests.{tests}
 use Rattle.laws.proofs.Counting.{T-ext}
-use Rattle.demands.specs.Urgent.{AtOrAbove, Apart, Alike, machineBit}
+use Rattle.demands.specs.Urgent.{Urgent, Apart, Alike, machineBit}
 use Rattle.demands.proofs.Urgent.{unaffected}
 
--- A claim like the request's. It asks that no activity below P precedes one that is `preceded`, and that two choices agree on
--- the releases and on the durations of these; it then promises the bits of those. Each is said of P and a priority.
+-- A claim by its parts. It asks that no activity below P `precedes` one with a `preceded` priority, and that two choices agree
+-- on the `releases` of threads and on the `durations` of activities with such priorities; it promises that the bits of
+-- activities with a `promised` one agree. These four are tests of P and a priority; `priority` is an activity's.
 pub record Claim : Type 0 where
   pub precedes : Model → ℕ → ℕ → Bool
   pub preceded : ℕ → ℕ → Bool
@@ -40,7 +41,7 @@ agree c m P q q′ =
     all (m .horizon) (λ t. all (m .activities) (λ a. c .promised P (c .priority m a)
     ⇒ ((machineBit m q t a ⇒ machineBit m q′ t a) && (machineBit m q′ t a ⇒ machineBit m q t a))))
 
--- by either mask
+-- b precedes a by either mask
 abbrev either : Model → ℕ → ℕ → Bool
 either m b a = temporally m b a || byData m b a
 
@@ -57,6 +58,7 @@ always P p = true
 abbrev never : ℕ → ℕ → Bool
 never P p = false
 
+-- a claim from its parts, in the order above
 abbrev claim : (Model → ℕ → ℕ → Bool) → (preceded releases durations promised : ℕ → ℕ → Bool)
     → (Model → ℕ → ℕ) → Claim
 claim precedes preceded releases durations promised priority = record {
@@ -72,14 +74,14 @@ claim precedes preceded releases durations promised priority = record {
 abbrev pub requested : Claim
 requested = claim either atOrAbove atOrAbove atOrAbove atOrAbove priorityOf
 
--- each of the others changes one thing: predecessors by one mask only
+-- the others: predecessors by one mask only
 abbrev pub temporalOnly : Claim
 temporalOnly = claim temporally atOrAbove atOrAbove atOrAbove atOrAbove priorityOf
 
 abbrev pub dataOnly : Claim
 dataOnly = claim byData atOrAbove atOrAbove atOrAbove atOrAbove priorityOf
 
--- "above" for "at or above"
+-- "above" for "at or above", in one place
 abbrev pub precededAbove : Claim
 precededAbove = claim either above atOrAbove atOrAbove atOrAbove priorityOf
 
@@ -88,6 +90,10 @@ releasesAbove = claim either atOrAbove above atOrAbove atOrAbove priorityOf
 
 abbrev pub durationsAbove : Claim
 durationsAbove = claim either atOrAbove atOrAbove above atOrAbove priorityOf
+
+-- the same in all four places, with below P as it is
+abbrev pub aboveEverywhere : Claim
+aboveEverywhere = claim either above above above above priorityOf
 
 -- agreement on releases, or on durations, dropped
 abbrev pub withoutReleases : Claim
@@ -132,11 +138,11 @@ asks-sound m P q q′ = (λ t. there (simp tests at t), λ h. simp tests (back h
     )
 
 pub agree-sound : (m : Model) (P : ℕ) (q q′ : Choice) → T (agree requested m P q q′)
-    ↔ ((t : ℕ) → t < m .horizon → (a : ℕ) → a < m .activities → AtOrAbove m P (m .thread a)
+    ↔ ((t : ℕ) → t < m .horizon → (a : ℕ) → a < m .activities → Urgent m P a
     → machineBit m q t a ≡ machineBit m q′ t a)
 agree-sound m P q q′ = (
   λ h t lt a l u. let both = (simp tests at h) t lt a l u in T-ext (machineBit m q t a) (machineBit m q′ t a) (both .0) (both .1),
-  λ h. simp tests (λ (t : ℕ) (lt : t < m .horizon) (a : ℕ) (l : a < m .activities) (u : AtOrAbove m P (m .thread a)).
+  λ h. simp tests (λ (t : ℕ) (lt : t < m .horizon) (a : ℕ) (l : a < m .activities) (u : Urgent m P a).
       (subst T (h t lt a l u), subst T (sym (h t lt a l u)))),
 )
 

@@ -1,4 +1,5 @@
--- Laws of the machine: what a step does to each activity, that owed and done make the duration, and what its ends say.
+-- Laws of the machine: what makes an activity ready, what a step does to each activity, that owed and done make the duration,
+-- and what its ends say.
 -- Assumes nothing.
 use Prim.Native.Nat.{ℕ, zero, suc, _+_, _-_, _≤_, _<_, _^_}
 use native.Mathlib.Numerals.{add-one}

@@ -1,5 +1,6 @@
--- "Rank the ready by priority, highest first, then by lower activity number. The first c": the choice of a tick is the
--- only one that keeps rules 28 to 31 there, and it keeps them.
+-- "Rank the ready by priority, highest first, then by lower activity number. The first c": whether an activity is selected
+-- depends only on the ready that rank before it and on itself; the choice of a tick is the only one that keeps rules 28 to 31
+-- there, and it keeps them.
 -- Assumes nothing.
 use Prim.Native.Nat.{ℕ, zero, suc, _≤_, _<_}
 use native.Mathlib.Decide.{decLt, ℕ-discrete}
