@@ -6,11 +6,6 @@ pub mod Page
 pub mod Fits
 pub mod Consequences
 pub mod Lateness
-pub mod WrongReports
 pub mod Deadline
-pub mod WrongDeadlines
 pub mod Rule24
-pub mod WrongRemovals
 pub mod Urgent
-pub mod UrgentClaims
-pub mod UrgentCases

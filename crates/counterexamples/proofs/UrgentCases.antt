@@ -10,7 +10,7 @@ use Rattle.schedule.specs.Model.{Model, model}
 use Rattle.schedule.specs.Choice.{Choice, choice}
 use Rattle.schedule.specs.Answers.{Answer, Figures}
 use Rattle.schedule.specs.Cases.{every, patch, accepts, refuses, words, run, Saying, verdict, numbers, said}
-use Rattle.demands.proofs.UrgentClaims.{
+use Rattle.counterexamples.proofs.UrgentClaims.{
   Claim,
   asks,
   agree,

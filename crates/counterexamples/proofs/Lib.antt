@@ -1,0 +1,5 @@
+pub mod WrongReports
+pub mod WrongDeadlines
+pub mod WrongRemovals
+pub mod UrgentClaims
+pub mod UrgentCases

@@ -1,0 +1,1 @@
+// Literal records on which a report, a deadline, a removal or a claim that is nearly right shows as wrong; no code.
