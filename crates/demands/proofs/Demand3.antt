@@ -100,7 +100,7 @@ module _ (s q : List ℕ) (q-bytes : Bytes q) (formed : AllHold (modelForm s))
         (λ t _ b _ l. bit-high (machineWord (model s) (choice q .release) (choice q .duration) t) (model s .activities) b
         (word-lt (model s) (choice q .release) (choice q .duration) t) l)
 
-    -- it is the machine's page
+    -- it has the machine's words, starts and ends, and the chosen releases
     pub made : Made (model s) (choice q .release) (choice q .duration) (plan (planBytes (machinePlan (model s) (choice q))))
     unfolding machinePlan
     made = record {
