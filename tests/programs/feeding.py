@@ -147,7 +147,7 @@ class Fed:
         self.run("S with H 5", patched(MODEL, 8, be(5, 2)) + CHOICE, run_refused(42, 2))
         self.run("release 3 for thread 0", MODEL + patched(CHOICE, 7, be(3, 2)), run_refused(12))
         self.run("duration 3 for activity 0", MODEL + patched(CHOICE, 15, be(3, 2)), run_refused(13))
-        self.run("a model of version 2", patched(MODEL, 4, [2]) + CHOICE, run_refused(2))
+        self.run("a model of version 3", patched(MODEL, 4, [3]) + CHOICE, run_refused(2))
         self.run("temporal mask 2 in activity 1's row", patched(MODEL, 52, be(2, 4)) + CHOICE, run_refused(7, 1))
 
     def parts(self, pair, refused):

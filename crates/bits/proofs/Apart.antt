@@ -11,8 +11,8 @@ use borrow.Author.Tests.{lt-ltb, eq-eqb, ne-eqb}
 use Rattle.schedule.specs.Bounded.{bit, lowest}
 use Rattle.laws.proofs.Counting.{T-true, T-false}
 use Rattle.laws.proofs.Lowest.{lowest-is}
-use Rattle.bits.specs.WithBit.{withoutBit}
-use Rattle.bits.proofs.WordLaws.{zero-bits, bit-without}
+use Rattle.schedule.specs.Bounded.{withoutBit}
+use Rattle.laws.proofs.WordLaws.{zero-bits, bit-without}
 
 module _ (rest a : ℕ) (fits : rest < 2 ^ 32) (more : ¬ (rest ≡ 0)) (low : a ≡ lowest 32 (bit rest)) where
   -- a word that is not 0 has a lowest bit

@@ -4,7 +4,7 @@ ghost use mathlib.Core.Path.{_≡_};
 ghost use mathlib.Core.Bool.{cond};
 ghost use lib.Dec.{ltb};
 ghost use Rattle.schedule.specs.Bounded.{bit, wordOf, ones, lowest};
-ghost use Rattle.bits.specs.WithBit.{withBit, withoutBit};
+ghost use Rattle.schedule.specs.Bounded.{withBit, withoutBit};
 
 // "Bit a of a tick's word says that activity a is active": bit b is set. No bit from 32 on is.
 pub fn has(word: u32, b: u32) -> bool

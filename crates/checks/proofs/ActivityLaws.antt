@@ -11,7 +11,8 @@ use lib.ListN.{getD}
 use Rattle.schedule.specs.declared.ActivityRule.{ActivityRule}
 use Rattle.schedule.specs.Bounded.{bit, wordOf, _⇒_}
 use Rattle.schedule.specs.Rule.{Rule}
-use Rattle.schedule.specs.Model.{Model, model, within, temporally, byData}
+use Rattle.schedule.specs.Records.{within}
+use Rattle.schedule.specs.Model.{Model, model, temporally, byData}
 use Rattle.schedule.specs.Plan.{Plan, plan, active}
 use Rattle.schedule.specs.Checks.{countOf, efe, window, rule22, rule25, rule26, rule27}
 use Rattle.schedule.specs.Opened.{check-rules}

@@ -20,7 +20,7 @@ use Rattle.schedule.specs.Opened.{check-rules}
 use Rattle.laws.proofs.Tests.{T-all}
 use Rattle.laws.proofs.Counting.{T-ext, T-false}
 use Rattle.laws.proofs.Words.{bit-high, bit-wordOf, word-ext, wordOf-ext, wordOf-lt}
-use Rattle.bits.proofs.WordLaws.{bit-zero}
+use Rattle.laws.proofs.WordLaws.{bit-zero}
 use Rattle.checks.specs.Windows.{openOf, without}
 use Rattle.tables.specs.declared.ranking.Order.{Order}
 use Rattle.tables.specs.Columns.{amongActivities}

@@ -16,7 +16,7 @@ use Rattle.laws.proofs.Counting.{T-ext, all-ext}
 use Rattle.laws.proofs.Sums.{greatest-bound, greatest-each}
 use Rattle.laws.proofs.Sound.{waits-sound}
 use Rattle.laws.proofs.Words.{wordOf-ext, wordOf-lt, word-ext, bit-wordOf}
-use Rattle.bits.proofs.WordLaws.{bit-and, zero-bits}
+use Rattle.laws.proofs.WordLaws.{bit-and, zero-bits}
 use Rattle.tables.specs.declared.ranking.Order.{Order}
 use Rattle.checks.specs.Tables.{brokenMask, any, waitsFrom, waitingMask, rankMask, outranking}
 

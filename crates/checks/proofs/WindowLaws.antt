@@ -16,7 +16,7 @@ use Rattle.schedule.specs.Plan.{Plan, active}
 use Rattle.laws.proofs.Between.{between-leb, between-ltb}
 use Rattle.laws.proofs.Steps.{all-start}
 use Rattle.laws.proofs.Words.{bit-wordOf, word-ext, wordOf-ext, wordOf-lt}
-use Rattle.bits.proofs.WordLaws.{bit-and, bit-not, bit-or, bit-zero}
+use Rattle.laws.proofs.WordLaws.{bit-and, bit-not, bit-or, bit-zero}
 use Rattle.ticks.specs.Kept.{Quiet}
 use Rattle.tables.specs.Columns.{TableOf}
 use Rattle.checks.specs.Rules.{noneOutside}

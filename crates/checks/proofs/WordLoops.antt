@@ -7,11 +7,11 @@ use mathlib.Core.Path.{_≡_, refl, sym, subst, ap, _∙_}
 use lib.Bits.{bitOr}
 use lib.Dec.{T}
 use Rattle.schedule.specs.Bounded.{all, bit, lowest}
-use Rattle.bits.specs.WithBit.{withoutBit}
+use Rattle.schedule.specs.Bounded.{withoutBit}
 use Rattle.laws.proofs.Tests.{T-all, T-and}
 use Rattle.laws.proofs.Counting.{T-true, T-ext}
 use Rattle.laws.proofs.Words.{bit-wordOf, word-ext, wordOf-lt}
-use Rattle.bits.proofs.WordLaws.{bit-or, bit-zero}
+use Rattle.laws.proofs.WordLaws.{bit-or, bit-zero}
 use Rattle.bits.proofs.Apart as apart
 use Rattle.checks.specs.Tables.{any, outranking}
 

@@ -4,7 +4,7 @@
 -- Assumes nothing.
 use Prim.Native.Nat.{ℕ, _^_, _≤_, _<_}
 use native.Mathlib.Decide.{decLt}
-use native.Mathlib.Nat.{mul-le-mul}
+use native.Mathlib.Nat.{mul-le-mul, mod-lt}
 use native.Mathlib.Omega.{arith}
 use mathlib.Core.Bool.{Bool, true, false}
 use mathlib.Core.List.{List, [], _∷_, _++_}
@@ -14,10 +14,11 @@ use lib.IntN.{ℤ, pos}
 use lib.ListN.{length, getD, length-append, length-replicate, replicate}
 use Rattle.schedule.specs.Bounded.{bit, ones}
 use Rattle.schedule.specs.declared.FormRefusal.{FormRefusal}
-use Rattle.schedule.specs.Fields.{Bytes}
+use Rattle.schedule.specs.Fields.{field, Bytes}
 use Rattle.schedule.specs.Rule.{Rule, Refusal, AllHold, FirstBroken}
-use Rattle.schedule.specs.Model.{Model, model, modelForm, modelLength, Within}
-use Rattle.schedule.specs.Model.{lengthRule, versionRule, limitsRule, formulaRule, threadRule, activityRule, maskRule}
+use Rattle.schedule.specs.Records.{Within, lengthRule, versionRule, formulaRule}
+use Rattle.schedule.specs.Model.{Model, page, unrolled, model, modelLength, newestModel, modelForm}
+use Rattle.schedule.specs.Model.{limitsRule, roundsRule, rowRules}
 use Rattle.schedule.specs.Timing.{deadlineRule}
 use Rattle.schedule.specs.Choice.{Choice, choice, choiceForm}
 use Rattle.schedule.specs.Plan.{Plan, plan, planForm}
@@ -37,6 +38,7 @@ use Rattle.laws.proofs.Sound.{plainChecks-sound, strictChecks-sound, runChecks-
 use Rattle.laws.proofs.VerdictLaws.{input-number, report-from-input, report-answer}
 use Rattle.laws.proofs.RuleNumbers.{AllRules, rules-append, first-broken-rule}
 use Rattle.laws.proofs.Ranges.{chosen-release-lt, chosen-period-lt}
+use Rattle.laws.proofs.Unrolled.{page-says, limits-kept}
 use Rattle.laws.proofs.Formed.{input-formed}
 use Rattle.laws.proofs.LatenessLaws.{rows-filled, rows-at}
 use Rattle.laws.proofs.LinesLaws.{second-bytes}
@@ -80,20 +82,28 @@ short-break rules x narrow h =
 
 -- rules 1 to 3, which every list begins with, and the other form rules of a model
 abbrev sizing : List ℕ → List Rule
-sizing s = lengthRule 1 10 s ∷ versionRule 2 s ∷ limitsRule (model s) ∷ []
+sizing s = lengthRule 1 10 s ∷ versionRule 2 newestModel s ∷ limitsRule (page s .plain) ∷ []
 
 abbrev rowing : List ℕ → List Rule
 rowing s =
-    formulaRule 4 (modelLength (model s .threads) (model s .activities)) s
-    ∷ threadRule (model s) ∷ activityRule (model s) ∷ maskRule (model s) ∷ []
+    formulaRule 4 (modelLength (field s 4 1) (page s .plain .threads) (page s .plain .activities)) s
+    ∷ roundsRule (page s) ∷ rowRules (page s)
 
 -- what rule 3 says
 abbrev Limited : Model → Type 0
 Limited m = (Within 1 8 (m .cores) × Within 1 8 (m .threads)) × (Within 1 32 (m .activities) × Within 1 4096 (m .horizon))
 
-limited : (s : List ℕ) → AllHold (sizing s) → Limited (model s)
+limited : (s : List ℕ) → AllHold (sizing s) → Limited (page s .plain)
 unfolding form-rules
 limited s h = says (formNumber FormRefusal.ModelLimits) (sizing s) h 0 0 (omega arith) (omega arith)
+
+-- then the unrolled model, whatever its rounds are, has counts of a byte and the page's horizon
+abbrev Counted : Model → Type 0
+Counted m = ((m .threads < 256) × (m .activities < 256)) × (m .horizon ≤ 4096)
+
+counted : (s : List ℕ) → Limited (page s .plain) → Counted (model s)
+unfolding model unrolled
+counted s l = ((mod-lt _ (omega arith), mod-lt _ (omega arith)), l .1 .1 .1)
 
 sizing-narrow : (s : List ℕ) → AllRules Narrow (sizing s)
 unfolding form-rules
@@ -101,7 +111,7 @@ sizing-narrow s = omega arith
 
 -- a refusal by a list that begins with rules 1 to 3, where the others are narrow within the limits
 short-refusal : (s : List ℕ) (rest : List Rule) (x : Refusal) → AllSound (sizing s ++ rest)
-    → (Limited (model s) → AllRules Narrow rest) → FirstBroken (sizing s ++ rest) x → ShortRefusal x
+    → (Limited (page s .plain) → AllRules Narrow rest) → FirstBroken (sizing s ++ rest) x → ShortRefusal x
 short-refusal s rest x sound narrow h =
     let sounds = sound-append (sizing s) rest .0 sound in
     ⊎-elim
@@ -116,36 +126,36 @@ short-refusal s rest x sound narrow h =
     (hold-or-broken (sizing s) (sounds .0))
 
 -- within the limits every other rule is narrow
-rowing-narrow : (s : List ℕ) → Limited (model s) → AllRules Narrow (rowing s)
+rowing-narrow : (s : List ℕ) → Limited (page s .plain) → AllRules Narrow (rowing s)
 unfolding form-rules
 rowing-narrow s l = omega arith
 
-plan-narrow : (m : Model) (r : List ℕ) → Limited m → AllRules Narrow (planForm m r)
+plan-narrow : (m : Model) (r : List ℕ) → Counted m → AllRules Narrow (planForm m r)
 unfolding planForm form-rules
 plan-narrow m r l = omega arith
 
-plain-narrow : (m : Model) (p : Plan) → Limited m → AllRules Narrow (plainRules m p)
+plain-narrow : (m : Model) (p : Plan) → Counted m → AllRules Narrow (plainRules m p)
 unfolding plainRules check-rules
 plain-narrow m p l = omega arith
 
-strict-narrow : (m : Model) (p : Plan) → Limited m → AllRules Narrow (strictRules m p)
+strict-narrow : (m : Model) (p : Plan) → Counted m → AllRules Narrow (strictRules m p)
 unfolding plainRules strictRules check-rules
 strict-narrow m p l =
     rules-append Narrow (plainRules m p) (rulesOf furtherOrder m p) (plain-narrow m p l) (omega arith)
 
-choice-narrow : (m : Model) (q : List ℕ) → Limited m → AllRules Narrow (choiceForm m q)
+choice-narrow : (m : Model) (q : List ℕ) → Counted m → AllRules Narrow (choiceForm m q)
 unfolding choiceForm form-rules
 choice-narrow m q l = omega arith
 
-run-narrow : (m : Model) (q : Choice) → Limited m → AllRules Narrow (runRules m q)
+run-narrow : (m : Model) (q : Choice) → Counted m → AllRules Narrow (runRules m q)
 unfolding runRules owedRule deadlineRule
 run-narrow m q l = omega arith
 
 -- ---- figures
 
 form-limited : (s : List ℕ) → AllHold (modelForm s) → Limited (model s)
-unfolding modelForm form-rules
-form-limited s h = says (formNumber FormRefusal.ModelLimits) (modelForm s) h 0 0 (omega arith) (omega arith)
+unfolding limitsRule model
+form-limited s h = limits-kept (page s) (page-says s h)
 
 -- what the plain check passes has figures below a hundred and fifty thousand
 pass-short : (s r : List ℕ) → AllHold (plainChecks s r) → ShortFigures (figures (model s) (plan r))
@@ -164,15 +174,15 @@ pass-short s r h =
 
 -- a refusal by a model's form rules and what follows them
 behind-form : (s : List ℕ) (more : List Rule) (x : Refusal) → AllSound (modelForm s ++ more)
-    → (Limited (model s) → AllRules Narrow more) → FirstBroken (modelForm s ++ more) x → ShortRefusal x
+    → (Counted (model s) → AllRules Narrow more) → FirstBroken (modelForm s ++ more) x → ShortRefusal x
 unfolding modelForm
 behind-form s more x sound narrow h =
     short-refusal s (rowing s ++ more) x sound
-    (λ l. rules-append Narrow (rowing s) more (rowing-narrow s l) (narrow l)) h
+    (λ l. rules-append Narrow (rowing s) more (rowing-narrow s l) (narrow (counted s l))) h
 
 -- and by the form rules of both records and what follows them
 behind-forms : (s r : List ℕ) (rules : List Rule) (x : Refusal)
-    → AllSound (modelForm s ++ (planForm (model s) r ++ rules)) → (Limited (model s) → AllRules Narrow rules)
+    → AllSound (modelForm s ++ (planForm (model s) r ++ rules)) → (Counted (model s) → AllRules Narrow rules)
     → FirstBroken (modelForm s ++ (planForm (model s) r ++ rules)) x → ShortRefusal x
 behind-forms s r rules x sound narrow =
     behind-form s (planForm (model s) r ++ rules) x sound
@@ -240,7 +250,7 @@ run-short s q room bytes = by (runAnswer s q room) refl
               let same : room-wanted ≡ x = cc in
               subst ShortRefusal same (omega arith)
           | no enough ↦
-              short-break (runRules (model s) (choice q)) x (run-narrow (model s) (choice q) l)
+              short-break (runRules (model s) (choice q)) x (run-narrow (model s) (choice q) (omega (arith, l)))
               (run-refused s q room x all (omega arith) .0 e)
         ]
 

@@ -9,3 +9,7 @@ pub mod Lateness
 pub mod Deadline
 pub mod Rule24
 pub mod Urgent
+pub mod SameAnswers
+pub mod SamePage
+pub mod ModelBytes
+pub mod Rounds

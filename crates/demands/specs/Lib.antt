@@ -5,3 +5,4 @@ pub mod Lateness
 pub mod Deadline
 pub mod Rule24
 pub mod Urgent
+pub mod Rounds

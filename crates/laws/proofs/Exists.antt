@@ -9,7 +9,8 @@ use mathlib.Core.Logic.{inl, inr}
 use mathlib.Core.Path.{_≡_, sym, subst, ap, _∙_}
 use lib.Dec.{T}
 use Rattle.schedule.specs.Bounded.{count, bit, ones, lowest}
-use Rattle.schedule.specs.Model.{Model, priorityOf, temporally, byData, Within, Ordered}
+use Rattle.schedule.specs.Records.{Within}
+use Rattle.schedule.specs.Model.{Model, priorityOf, temporally, byData, Ordered}
 use Rattle.schedule.specs.Timing.{InTime}
 use Rattle.schedule.specs.Plan.{Plan, planTiming, active}
 use Rattle.schedule.specs.Machine.{owes, endOf, ready, selected, machineWord, machineStart, machineEnd, machineOwes}

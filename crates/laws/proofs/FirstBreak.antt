@@ -324,6 +324,14 @@ unfolding firstBreak
 append-same [] ys zs e = e
 append-same (r ∷ xs) ys zs e = ap (orElse (break r)) (append-same xs ys zs e)
 
+-- and before any list
+pub prepend-same : (xs ys zs : List Rule) → firstBreak xs ≡ firstBreak ys → firstBreak (xs ++ zs) ≡ firstBreak (ys ++ zs)
+prepend-same xs ys zs e = by (firstBreak xs) refl
+  where
+    by : (o : Option Refusal) → firstBreak xs ≡ o → firstBreak (xs ++ zs) ≡ firstBreak (ys ++ zs)
+    by none f = append-none xs zs f ∙ sym (append-none ys zs (sym e ∙ f))
+    by (some x) f = append-some xs zs x f ∙ sym (append-some ys zs x (sym e ∙ f))
+
 -- a rule that the rules before it imply changes no first break
 pub implied-rule : (before : List Rule) (rule : Rule) (after : List Rule) → AllSound before → Sound rule
     → (AllHold before → Everywhere rule) → firstBreak (before ++ (rule ∷ after)) ≡ firstBreak (before ++ after)

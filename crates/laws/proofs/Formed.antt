@@ -9,7 +9,9 @@ use mathlib.Core.Path.{_≡_}
 use Rattle.schedule.specs.declared.FormRefusal.{FormRefusal}
 use Rattle.schedule.specs.Fields.{Bytes}
 use Rattle.schedule.specs.Rule.{firstBreak, AllHold}
-use Rattle.schedule.specs.Model.{Model, model, modelForm, Within, Formed}
+use Rattle.schedule.specs.Records.{Within}
+use Rattle.schedule.specs.Model.{Model, page, unrolled, model, modelForm, Formed}
+use Rattle.schedule.specs.Model.{limitsRule, activityRule, maskRule}
 use Rattle.schedule.specs.Choice.{Choice, choice, choiceThreadRow, choiceForm}
 use Rattle.schedule.specs.Answers.{runChecks}
 use Rattle.schedule.specs.Numbers.{formNumber}
@@ -17,31 +19,36 @@ use Rattle.schedule.specs.Opened.{form-rules}
 use Rattle.laws.proofs.FieldLaws.{field-lt}
 use Rattle.laws.proofs.FirstBreak.{says, none-iff, hold-append}
 use Rattle.laws.proofs.Sound.{runChecks-sound}
+use Rattle.laws.proofs.Unrolled.{page-says, limits-kept, owners-kept, masks-kept}
 
--- rules 3, 6 and 7
+-- rules 3, 6 and 7 of a plain model
+pub formed : (m : Model) → limitsRule m .Holds 0 0 → ((a : ℕ) → a < m .activities → activityRule m .Holds a 0)
+    → ((a : ℕ) → a < m .activities → maskRule m .Holds a 0) → Formed m
+unfolding limitsRule activityRule maskRule
+formed m limits rows masks = record {
+  threads = limits .0 .1;
+  activities = limits .1 .0;
+  horizon = limits .1 .1;
+  owner = λ a l. rows a l .0 .0;
+  lasting = λ a l. rows a l .0 .1;
+  ordered = record {
+    temporal = λ a b la lb x. elim (decLt b a) [
+      | yes y ↦ y
+      | no y ↦ absurd (masks a la b (omega (arith, limits .1 .0 .1)) (omega arith) .0 x)
+    ];
+    by-data = λ a b la lb x. elim (decLt b a) [
+      | yes y ↦ y
+      | no y ↦ absurd (masks a la b (omega (arith, limits .1 .0 .1)) (omega arith) .1 x)
+    ];
+  };
+}
+
+-- the unrolled model of a page that meets its form rules keeps them
 pub model-says : (s : List ℕ) → AllHold (modelForm s) → Formed (model s)
-unfolding modelForm form-rules
+unfolding model
 model-says s h =
-    let limits = says (formNumber FormRefusal.ModelLimits) (modelForm s) h 0 0 (omega arith) (omega arith) in
-    let rows = says (formNumber FormRefusal.ActivityRow) (modelForm s) h in
-    let masks = says (formNumber FormRefusal.MaskRow) (modelForm s) h in
-    record {
-      threads = limits .0 .1;
-      activities = limits .1 .0;
-      horizon = limits .1 .1;
-      owner = λ a l. rows a 0 l (omega arith) .0 .0;
-      lasting = λ a l. rows a 0 l (omega arith) .0 .1;
-      ordered = record {
-        temporal = λ a b la lb x. elim (decLt b a) [
-          | yes y ↦ y
-          | no y ↦ absurd (masks a 0 la (omega arith) b (omega (arith, limits .1 .0 .1)) (omega arith) .0 x)
-        ];
-        by-data = λ a b la lb x. elim (decLt b a) [
-          | yes y ↦ y
-          | no y ↦ absurd (masks a 0 la (omega arith) b (omega (arith, limits .1 .0 .1)) (omega arith) .1 x)
-        ];
-      };
-    }
+    let says = page-says s h in
+    formed (unrolled (page s)) (limits-kept (page s) says) (owners-kept (page s) says) (masks-kept (page s) says)
 
 -- where the input of a run passes, its model meets its form rules
 pub input-formed : (s q : List ℕ) → AllHold (runChecks s q) → Formed (model s)

@@ -2,6 +2,8 @@ pub mod Tests
 pub mod Counting
 pub mod Words
 pub mod Lowest
+pub mod WordLaws
+pub mod RoundLaws
 pub mod Sums
 pub mod Steps
 pub mod Between
@@ -29,4 +31,5 @@ pub mod Named
 pub mod LinesLaws
 pub mod LineLengths
 pub mod RowLaws
+pub mod Unrolled
 pub mod Formed

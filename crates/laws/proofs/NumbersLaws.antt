@@ -7,6 +7,7 @@ use mathlib.Core.List.{List, [], _∷_, _++_, map}
 use mathlib.Core.Path.{_≡_, refl, sym, ap, _∙_}
 use lib.Dec.{eqb}
 use Rattle.schedule.specs.declared.Place.{Place}
+use Rattle.schedule.specs.declared.RowRule.{RowRule}
 use Rattle.schedule.specs.declared.FormRefusal.{FormRefusal}
 use Rattle.schedule.specs.declared.ActivityRule.{ActivityRule}
 use Rattle.schedule.specs.declared.TickRule.{TickRule}
@@ -17,6 +18,7 @@ use Rattle.schedule.specs.declared.Verdict.{Verdict}
 use Rattle.schedule.specs.declared.RunVerdict.{RunVerdict}
 use Rattle.schedule.specs.declared.WordAt.{WordAt}
 use Rattle.schedule.specs.Rule
+use Rattle.schedule.specs.Model.{rowOrder}
 use Rattle.schedule.specs.Checks.{strictOrder}
 use Rattle.schedule.specs.Answers
 use Rattle.schedule.specs.Answers.{Answer, accepted, refused}
@@ -29,16 +31,14 @@ undone-injective : {X Y : Type 0} (f : X → Y) (g : Y → X) → ((x : X) → g
     → (x y : X) → f x ≡ f y → x ≡ y
 undone-injective f g undone x y e = sym (undone x) ∙ ap g e ∙ undone y
 
--- the cases of form and of the run; those of the rules are the strict check's
+-- the cases of form and of the run; those of a model's rows are its order's, and those of the rules the strict check's
 abbrev forms : List FormRefusal
 forms =
     FormRefusal.ModelSize
     ∷ FormRefusal.ModelVersion
     ∷ FormRefusal.ModelLimits
     ∷ FormRefusal.ModelFormula
-    ∷ FormRefusal.ThreadRow
-    ∷ FormRefusal.ActivityRow
-    ∷ FormRefusal.MaskRow
+    ∷ FormRefusal.Rounds
     ∷ FormRefusal.SecondSize
     ∷ FormRefusal.SecondVersion
     ∷ FormRefusal.SecondCounts
@@ -54,7 +54,7 @@ runs = RunRefusal.Room ∷ RunRefusal.Owed ∷ RunRefusal.Late ∷ RunRefusal.Ro
 -- every refusal that there is, still without its place
 abbrev refusals : List (Place → Refusal)
 refusals =
-    map (λ (why : FormRefusal) (at : Place). Refusal.Form why at) forms
+    map (λ (why : FormRefusal) (at : Place). Refusal.Form why at) (forms ++ map FormRefusal.ModelRow rowOrder)
     ++ (map (λ (why : RuleRefusal) (at : Place). Refusal.Rule why at) strictOrder
     ++ map (λ (why : RunRefusal) (at : Place). Refusal.Run why at) runs)
 
@@ -72,9 +72,12 @@ form-undone FormRefusal.ModelSize at = refl
 form-undone FormRefusal.ModelVersion at = refl
 form-undone FormRefusal.ModelLimits at = refl
 form-undone FormRefusal.ModelFormula at = refl
-form-undone FormRefusal.ThreadRow at = refl
-form-undone FormRefusal.ActivityRow at = refl
-form-undone FormRefusal.MaskRow at = refl
+form-undone FormRefusal.Rounds at = refl
+form-undone (FormRefusal.ModelRow RowRule.Thread) at = refl
+form-undone (FormRefusal.ModelRow RowRule.Period) at = refl
+form-undone (FormRefusal.ModelRow RowRule.Activity) at = refl
+form-undone (FormRefusal.ModelRow RowRule.Loop) at = refl
+form-undone (FormRefusal.ModelRow RowRule.Masks) at = refl
 form-undone FormRefusal.SecondSize at = refl
 form-undone FormRefusal.SecondVersion at = refl
 form-undone FormRefusal.SecondCounts at = refl

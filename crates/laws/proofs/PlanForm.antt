@@ -12,7 +12,8 @@ use lib.Seq.{ext-getD}
 use Rattle.schedule.specs.declared.FormRefusal.{FormRefusal}
 use Rattle.schedule.specs.Fields.{field, pairRow, Bytes}
 use Rattle.schedule.specs.Rule.{AllHold}
-use Rattle.schedule.specs.Model.{Model, Within}
+use Rattle.schedule.specs.Records.{Within}
+use Rattle.schedule.specs.Model.{Model}
 use Rattle.schedule.specs.Plan.{Plan, plan, active, planBytes, planForm, planThreadRow, gridAt, tickAt, planLength}
 use Rattle.schedule.specs.Numbers.{formNumber}
 use Rattle.schedule.specs.Opened.{form-rules}
@@ -49,7 +50,7 @@ form-says m r h =
     record {
       length = omega arith;
       stated = omega arith;
-      version = says (formNumber FormRefusal.SecondVersion) (planForm m r) h 0 0 (omega arith) (omega arith);
+      version = omega (arith, says (formNumber FormRefusal.SecondVersion) (planForm m r) h 0 0 (omega arith) (omega arith));
       threads = counts .0 .0;
       activities = counts .0 .1;
       horizon = counts .1;
@@ -63,7 +64,7 @@ unfolding planForm form-rules
 well-formed m r w = (
   λ _ _ _ _. (omega arith, w .stated ∙ sym (w .length)),
   (
-    λ _ _ _ _. w .version,
+    λ _ _ _ _. omega (arith, w .version),
     (
       λ _ _ _ _. ((w .threads, w .activities), w .horizon),
       (

@@ -1,26 +1,38 @@
 -- The fields of the records fit their bytes.
 -- Assumes nothing.
 use Prim.Native.Nat.{ℕ, _<_}
+use native.Mathlib.Omega.{arith}
+use mathlib.Core.Bool.{Bool, true, false, cond}
 use mathlib.Core.List.{List}
+use lib.Dec.{ltb}
 use Rattle.schedule.specs.Fields.{Bytes}
-use Rattle.schedule.specs.Model.{model}
+use Rattle.schedule.specs.Rounds.{below}
+use Rattle.schedule.specs.Model.{page, unrolled, model}
 use Rattle.schedule.specs.Choice.{choice}
 use Rattle.schedule.specs.Plan.{plan}
 use Rattle.laws.proofs.FieldLaws.{field-lt}
 
+-- a field of the page that is below a bound is so in every row of the unrolled model
+pub below-lt : (bound most : ℕ) (f : ℕ → ℕ) → 0 < most → ((x : ℕ) → f x < most) → (a : ℕ) → below bound f a < most
+below-lt bound most f pos each a = one (ltb a bound)
+  where
+    one : (t : Bool) → cond t (f a) 0 < most
+    one true = each a
+    one false = pos
+
 -- of a model
 module _ (s : List ℕ) (h : Bytes s) where
   pub cores-lt : model s .cores < 256
-  unfolding model
+  unfolding model unrolled page
   cores-lt = field-lt s h 5 1
 
   pub horizon-lt : model s .horizon < 65536
-  unfolding model
-  horizon-lt = field-lt s h _ 2
+  unfolding model unrolled page
+  horizon-lt = field-lt s h 8 2
 
   pub delay-lt : (a : ℕ) → model s .delay a < 65536
-  unfolding model
-  delay-lt a = field-lt s h _ 2
+  unfolding model unrolled page
+  delay-lt = below-lt _ 65536 _ (omega arith) (λ x. field-lt s h _ 2)
 
 -- of a choice
 module _ (q : List ℕ) (h : Bytes q) where

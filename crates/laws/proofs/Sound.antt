@@ -10,7 +10,7 @@ use Rattle.schedule.specs.declared.ActivityRule.{ActivityRule}
 use Rattle.schedule.specs.declared.TickRule.{TickRule}
 use Rattle.schedule.specs.declared.RuleRefusal.{RuleRefusal}
 use Rattle.schedule.specs.Rule.{Rule}
-use Rattle.schedule.specs.Model.{Model, model, modelForm}
+use Rattle.schedule.specs.Model.{Model, Page, page, model, headRules, rowRules, modelForm}
 use Rattle.schedule.specs.Timing.{deadlineRule}
 use Rattle.schedule.specs.Choice.{Choice, choice, choiceForm}
 use Rattle.schedule.specs.Plan.{Plan, plan, planForm}
@@ -59,9 +59,17 @@ same : (P : ℕ → ℕ → Type 0) (a b : ℕ) → P a b ↔ P a b
 same P a b = Iff·rfl
 
 -- the lists of rules, each read as a whole
+pub headRules-sound : (s : List ℕ) → AllSound (headRules s)
+unfolding form-rules
+headRules-sound s = simp whole (same _ & same _ & same _ & same _ & same _ & tt)
+
+pub rowRules-sound : (p : Page) → AllSound (rowRules p)
+unfolding form-rules
+rowRules-sound p = simp whole (same _ & same _ & same _ & same _ & same _ & tt)
+
 pub modelForm-sound : (s : List ℕ) → AllSound (modelForm s)
-unfolding modelForm form-rules
-modelForm-sound s = simp whole (same _ & same _ & same _ & same _ & same _ & same _ & same _ & tt)
+unfolding modelForm
+modelForm-sound s = sound-append (headRules s) (rowRules (page s)) .1 (headRules-sound s, rowRules-sound (page s))
 
 pub choiceForm-sound : (m : Model) (q : List ℕ) → AllSound (choiceForm m q)
 unfolding choiceForm form-rules

@@ -22,9 +22,9 @@ use Rattle.laws.proofs.Tests.{T-and, T-not, T-all, T-implies, T-eqb, T-ltb}
 use Rattle.laws.proofs.Counting.{decT, T-ext, T-true, T-false, count-ext, all-ext}
 use Rattle.laws.proofs.MachineLaws.{owes-next, end-next, getD-table}
 use Rattle.laws.proofs.Words.{wordOf-ext, wordOf-lt, bit-wordOf, bit-high, ones-count}
-use Rattle.bits.proofs.WordLaws.{bit-and, bit-not, bit-zero, zero-bits}
+use Rattle.laws.proofs.WordLaws.{bit-and, bit-not, bit-zero, zero-bits}
 use Rattle.bits.proofs.Apart.{lowest-lt, lowest-set, gone, kept, still-within, none-taken}
-use Rattle.bits.specs.WithBit.{withoutBit}
+use Rattle.schedule.specs.Bounded.{withoutBit}
 use Rattle.machine.specs.Masks.{covered, endedFrom, endedMask, readyFrom, selectedFrom, readyMask, tickWord}
 use Rattle.machine.specs.Masks.{delays, Tabled, Keeps, Stepped}
 use Rattle.tables.specs.Columns.{TableOf, amongActivities}

@@ -16,8 +16,8 @@ use Rattle.laws.proofs.Between.{between-leb, sooner-le}
 use Rattle.laws.proofs.Counting.{decT, T-true, T-false}
 use Rattle.laws.proofs.Steps.{zeros-at}
 use Rattle.laws.proofs.Words.{wordOf-ext}
-use Rattle.bits.specs.WithBit.{withoutBit}
-use Rattle.bits.proofs.WordLaws.{bit-zero}
+use Rattle.schedule.specs.Bounded.{withoutBit}
+use Rattle.laws.proofs.WordLaws.{bit-zero}
 use Rattle.bits.proofs.Apart.{kept}
 use Rattle.ticks.specs.declared.Kept.{Kept}
 use Rattle.ticks.proofs.KeptLaws.{quiet-start, quiet-next, quiet-sooner, stands-unknown}

@@ -4,6 +4,7 @@ use schedule::ActivityRule;
 use schedule::FormRefusal;
 use schedule::Numbered;
 use schedule::Refusal;
+use schedule::RowRule;
 use schedule::RuleRefusal;
 use schedule::RunRefusal;
 use schedule::RunVerdict;
@@ -13,10 +14,24 @@ ghost use Prim.Native.Nat.{_+_, _-_, _%_, max, min};
 ghost use lib.IntN.{natAbs};
 ghost use Rattle.schedule.specs.Report.{fills, isDash};
 ghost use Rattle.schedule.specs.Lines.{hexDigit};
+ghost use Rattle.schedule.specs.declared.FormRefusal.{FormRefusal};
 ghost use Rattle.schedule.specs.declared.RuleRefusal.{RuleRefusal};
 ghost use Rattle.schedule.specs.Numbers.{formNumber, ruleNumber, runNumber, refusalNumbers, numbersOf, runNumbers};
 
-// 1 to 14.
+// 5 to 7, 52 and 53.
+fn row_number(rule: RowRule) -> u32
+    ensures { λ r. ⌜ r ≡ formNumber (FormRefusal.ModelRow rule) ⌝ }
+{
+    match rule {
+        RowRule::Thread => 5,
+        RowRule::Period => 52,
+        RowRule::Activity => 6,
+        RowRule::Loop => 53,
+        RowRule::Masks => 7,
+    }
+}
+
+// 1 to 14, and 51 to 53.
 fn form_number(why: FormRefusal) -> u32
     ensures { λ r. ⌜ r ≡ formNumber why ⌝ }
 {
@@ -25,9 +40,8 @@ fn form_number(why: FormRefusal) -> u32
         FormRefusal::ModelVersion => 2,
         FormRefusal::ModelLimits => 3,
         FormRefusal::ModelFormula => 4,
-        FormRefusal::ThreadRow => 5,
-        FormRefusal::ActivityRow => 6,
-        FormRefusal::MaskRow => 7,
+        FormRefusal::Rounds => 51,
+        FormRefusal::ModelRow(rule) => row_number(rule),
         FormRefusal::SecondSize => 8,
         FormRefusal::SecondVersion => 9,
         FormRefusal::SecondCounts => 10,

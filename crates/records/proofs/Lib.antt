@@ -1,6 +1,7 @@
 pub mod Masks
 pub mod Reading
 pub mod RowTests
+pub mod UnrolledRows
 pub mod RowOrder
 pub mod Orders
 pub mod Forms

@@ -13,7 +13,7 @@ use Rattle.schedule.specs.Bounded.{all, bit, wordOf, _⇒_}
 use Rattle.laws.proofs.Tests.{T-all, T-and, T-not}
 use Rattle.laws.proofs.Counting.{T-ext, T-false, all-ext}
 use Rattle.laws.proofs.Words.{bit-wordOf, wordOf-lt}
-use Rattle.bits.proofs.WordLaws.{bit-and, bit-not, zero-bits}
+use Rattle.laws.proofs.WordLaws.{bit-and, bit-not, zero-bits}
 
 -- a word is 0 exactly where no bit is set
 zero-clear : (k x : ℕ) → x < 2 ^ k → eqb x 0 ≡ all k (λ b. not (bit x b))

@@ -2,7 +2,7 @@
 -- Assumes nothing.
 use Prim.Native.Nat.{ℕ, _+_, _<_}
 use mathlib.Core.Bool.{Bool, true, false, not, cond}
-use mathlib.Core.List.{List, [], _∷_}
+use mathlib.Core.List.{List, [], _∷_, _++_}
 use mathlib.Core.Option.{Option, some, none}
 use mathlib.Core.Path.{_≡_, refl, sym, subst, ap, ap₂, _∙_}
 use borrow.Author.Tests.{not-false, not-true}
@@ -108,6 +108,19 @@ rule-next r rs = next (break r) (firstBreak rs)
 pub rule-end : firstBreak [] ≡ none
 unfolding firstBreak
 rule-end = refl
+
+orElse-assoc : (o p q : Option Rule.Refusal) → orElse (orElse o p) q ≡ orElse o (orElse p q)
+orElse-assoc (some x) p q = refl
+orElse-assoc none p q = refl
+
+-- two lists of rules, one after the other
+pub rules-next : (rules more : List Rule) → firstBreak (rules ++ more) ≡ orElse (firstBreak rules) (firstBreak more)
+rules-next [] more = ap (λ (o : Option Rule.Refusal). orElse o (firstBreak more)) (sym rule-end)
+rules-next (r ∷ rules) more =
+    rule-next r (rules ++ more)
+    ∙ ap (orElse (break r)) (rules-next rules more)
+    ∙ sym (orElse-assoc (break r) (firstBreak rules) (firstBreak more))
+    ∙ ap (λ (o : Option Rule.Refusal). orElse o (firstBreak more)) (sym (rule-next r rules))
 
 -- a rule that names no row, at the head of a list
 pub rule-picked : (r : Rule) (rs : List Rule) → r .rows ≡ 1 → r .columns ≡ 1

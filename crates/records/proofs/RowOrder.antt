@@ -1,13 +1,15 @@
--- What the rules of a model's rows are tried at.
+-- What the rules of a page's rows are tried at.
 -- Assumes nothing.
 use mathlib.Core.Path.{_≡_, refl}
-use Rattle.schedule.specs.Model.{Model, threadRule, activityRule, maskRule}
-use Rattle.records.specs.declared.model.RowRule.{RowRule}
-use Rattle.records.specs.RowRules.{rowRule}
+use Rattle.schedule.specs.declared.RowRule.{RowRule}
+use Rattle.schedule.specs.Model.{Page, rowRule}
+use Rattle.schedule.specs.Opened.{form-rules}
 
 -- none names a B
-pub row-columns : (rule : RowRule) (m : Model) → rowRule rule m .columns ≡ 1
-unfolding threadRule activityRule maskRule
-row-columns RowRule.Thread m = refl
-row-columns RowRule.Activity m = refl
-row-columns RowRule.Masks m = refl
+pub row-columns : (rule : RowRule) (p : Page) → rowRule rule p .columns ≡ 1
+unfolding form-rules
+row-columns RowRule.Thread p = refl
+row-columns RowRule.Period p = refl
+row-columns RowRule.Activity p = refl
+row-columns RowRule.Loop p = refl
+row-columns RowRule.Masks p = refl

@@ -5,14 +5,15 @@ use mathlib.Core.Bool.{Bool, _&&_}
 use mathlib.Core.List.{List}
 use mathlib.Core.Path.{_≡_, sym, ap, ap₂, _∙_}
 use Rattle.schedule.specs.Answers.{Answer}
-use Rattle.schedule.specs.Model.{Model, within, threadRule, activityRule, maskRule}
+use Rattle.schedule.specs.Records.{within}
+use Rattle.schedule.specs.Model.{Model, Page, threadRule, periodRule, activityRule, loopRule, maskRule}
 use Rattle.schedule.specs.Choice.{Choice, durationRule, rangeRule}
 use Rattle.schedule.specs.Plan.{Plan, wordRule}
 use Rattle.records.specs.declared.rows.Row.{Row}
 use Rattle.records.specs.declared.model.ThreadRow.{ThreadRow}
 use Rattle.records.specs.declared.model.ActivityRow.{ActivityRow}
 use Rattle.records.specs.declared.plan.Timing.{Timing}
-use Rattle.records.specs.Rows.{threadRowOf, activityRowOf, threadHolds, activityHolds, masksHold}
+use Rattle.records.specs.Rows.{threadRowOf, activityRowOf, threadHolds, periodHolds, activityHolds, loopHolds, masksHold}
 use Rattle.records.specs.Rows.{noneFrom, timing, timingAt, timingHolds, timingRule}
 use Rattle.records.specs.Reads.{answerAt, rowAnswer}
 use Rattle.records.proofs.Masks.{none-from-both}
@@ -32,6 +33,19 @@ pub thread-answered : (m : Model) (j : ℕ) (o : Answer Row) (t : Bool) (row : T
 unfolding threadRule threadHolds threadRowOf
 thread-answered m j o t row e holds said =
     row-answered (threadRule m) j o t (Row.Thread row) _ said (holds ∙ ap threadHolds e) (ap Row.Thread e)
+
+pub period-answered : (p : Page) (j rounds : ℕ) (o : Answer Row) (t : Bool) (row : ThreadRow) → row ≡ threadRowOf (p .plain) j
+    → rounds ≡ p .rounds → t ≡ periodHolds rounds row → o ≡ answerAt t (Row.Thread row) 52 j
+    → o ≡ rowAnswer (periodRule p) j (Row.Thread (threadRowOf (p .plain) j))
+unfolding periodRule periodHolds threadRowOf
+period-answered p j rounds o t row e same holds said =
+    row-answered (periodRule p) j o t (Row.Thread row) _ said (holds ∙ ap₂ periodHolds same e) (ap Row.Thread e)
+
+pub loop-answered : (p : Page) (a q m : ℕ) (o : Answer Row) (t : Bool) → q ≡ p .loop a → m ≡ p .plain .activities
+    → t ≡ loopHolds m q → o ≡ answerAt t (Row.Loop q) 53 a → o ≡ rowAnswer (loopRule p) a (Row.Loop (p .loop a))
+unfolding loopRule loopHolds
+loop-answered p a q m o t e activities holds said =
+    row-answered (loopRule p) a o t (Row.Loop q) _ said (holds ∙ ap₂ loopHolds activities e) (ap Row.Loop e)
 
 pub activity-answered : (m : Model) (a n : ℕ) (o : Answer Row) (t : Bool) (row : ActivityRow) → row ≡ activityRowOf m a
     → n ≡ m .threads → t ≡ activityHolds n row → o ≡ answerAt t (Row.Activity row) 6 a

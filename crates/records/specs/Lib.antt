@@ -1,4 +1,5 @@
 pub mod Rows
+pub mod Unrolled
 pub mod Reads
 pub mod RowRules
 pub mod Writes

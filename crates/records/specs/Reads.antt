@@ -8,6 +8,7 @@ use mathlib.Core.Option.{Option, some, none}
 use lib.Dec.{eqb, leb}
 use lib.ListN.{length}
 use Rattle.schedule.specs.Fields.{field}
+use Rattle.schedule.specs.Records.{within}
 use Rattle.schedule.specs.Rule
 use Rattle.schedule.specs.Rule.{Rule}
 use Rattle.schedule.specs.Answers.{Answer, accepted, refused}
@@ -66,11 +67,12 @@ pick t number rest = cond t rest (some (refusalIn number 0))
 abbrev pub sized : ℕ → List ℕ → Bool
 sized k s = leb k (length s) && eqb (field s 0 4) (length s)
 
--- the four rules that come first in a record, with the test of its counts and the length that its formula gives
-unfoldable pub headBreak : List ℕ → Names → ℕ → Bool → ℕ → Option Rule.Refusal
-headBreak s names least counts wanted =
+-- the four rules that come first in a record, with its newest version, the test of its counts and the length that its formula
+-- gives
+unfoldable pub headBreak : List ℕ → Names → ℕ → ℕ → Bool → ℕ → Option Rule.Refusal
+headBreak s names least newest counts wanted =
     pick (sized least s) (formNumber (names .size))
-    (pick (eqb (field s 4 1) 1) (formNumber (names .version))
+    (pick (within 1 newest (field s 4 1)) (formNumber (names .version))
     (pick counts (formNumber (names .counts))
     (pick (eqb (field s 0 4) wanted) (formNumber (names .formula)) none)))
 
@@ -94,7 +96,7 @@ secondNames = record {
 
 -- rules 8 to 11 of the bytes r of a choice or a plan beside the bytes s of a model
 abbrev pub secondHead : List ℕ → List ℕ → ℕ → Bool → ℕ → Option Rule.Refusal
-secondHead s r least same-horizon wanted = headBreak r secondNames least (same-horizon && countsHold s r) wanted
+secondHead s r least same-horizon wanted = headBreak r secondNames least 1 (same-horizon && countsHold s r) wanted
 
 -- ---- the three records
 

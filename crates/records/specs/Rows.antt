@@ -1,11 +1,13 @@
 -- The rows of the three records as the readers hand them out.
 -- Assumes nothing.
-use Prim.Native.Nat.{ℕ, _+_}
+use Prim.Native.Nat.{ℕ, _+_, _-_, _*_}
 use mathlib.Core.Bool.{Bool, _&&_, not}
 use mathlib.Core.List.{List}
 use lib.Dec.{eqb, leb, ltb}
 use Rattle.schedule.specs.Bounded.{all, bit, _⇒_}
-use Rattle.schedule.specs.Model.{Model, model, within}
+use Rattle.schedule.specs.Records.{within}
+use Rattle.schedule.specs.Model.{Model, model}
+use Rattle.schedule.specs.Rounds.{noLoop}
 use Rattle.schedule.specs.Fields.{field, pairRow}
 use Rattle.schedule.specs.Rule.{Rule}
 use Rattle.schedule.specs.Choice.{rangeRule}
@@ -17,7 +19,7 @@ use Rattle.records.specs.declared.plan.PlanSizes.{PlanSizes}
 use Rattle.records.specs.declared.plan.Timing.{Timing}
 use Rattle.records.specs.declared.plan.Span.{Span}
 
--- the counts at the head of a model
+-- the counts of a model
 unfoldable pub sizesOf : Model → Sizes
 sizesOf m = record { cores = m .cores; threads = m .threads; activities = m .activities; horizon = m .horizon }
 
@@ -69,16 +71,32 @@ unfoldable pub limitsHold : Sizes → Bool
 limitsHold x =
     (within 1 8 (x .cores) && within 1 8 (x .threads)) && (within 1 32 (x .activities) && within 1 4096 (x .horizon))
 
+-- rule 51, of the counts of one round
+unfoldable pub roundsHold : Sizes → ℕ → Bool
+roundsHold one rounds =
+    (within 1 4 rounds && leb (rounds * one .threads) 8) && leb (rounds * one .activities) 32
+
 -- rule 5, of a thread row
 unfoldable pub threadHolds : ThreadRow → Bool
 threadHolds row =
     (leb (row .«least_period») (row .«most_period») && leb (row .«least_release») (row .«most_release»))
     && (eqb (row .«least_period») 0 ⇒ eqb (row .«most_period») 0)
 
+-- rule 52, of a thread row
+unfoldable pub periodHolds : ℕ → ThreadRow → Bool
+periodHolds rounds row =
+    ltb 1 rounds
+    ⇒ (eqb (row .«least_period») (row .«most_period»)
+    && leb (row .«most_release» + (rounds - 1) * row .«least_period») 65535)
+
 -- rule 6, of an activity row beside n threads
 unfoldable pub activityHolds : ℕ → ActivityRow → Bool
 activityHolds n row =
     (ltb (row .thread .0) n && leb 1 (row .«least_duration»)) && leb (row .«least_duration») (row .«most_duration»)
+
+-- rule 53, of a loop byte beside m activities
+unfoldable pub loopHolds : ℕ → ℕ → Bool
+loopHolds m q = not (eqb q noLoop) ⇒ ltb q m
 
 -- a word has no bit at n or above
 unfoldable pub noneFrom : ℕ → ℕ → Bool

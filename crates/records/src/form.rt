@@ -10,7 +10,7 @@ ghost use mathlib.Core.Bool.{_&&_};
 ghost use mathlib.Core.Option.{some};
 ghost use lib.Dec.{eqb};
 ghost use Rattle.schedule.specs.Fields.{field};
-ghost use Rattle.schedule.specs.Model.{within};
+ghost use Rattle.schedule.specs.Records.{within};
 ghost use Rattle.schedule.specs.Numbers.{formNumber, refusalNumbers};
 ghost use Rattle.records.specs.Reads.{refusalIn, passNumbers, sized, headBreak, secondHead};
 ghost use Rattle.records.specs.Rows.{countsHold, noneFrom};
@@ -33,11 +33,11 @@ fn length_holds(s: &[u8], k: usize) -> bool
     }
 }
 
-// "then a version byte, 1"
-fn version_holds(s: &[u8]) -> bool
-    ensures { λ r. ⌜ r ≡ eqb (field (now (s .entry)) 4 1) 1 ⌝ }
+// "then a version byte, 1", and of a model up to the newest version.
+fn version_holds(s: &[u8], newest: u8) -> bool
+    ensures { λ r. ⌜ r ≡ within 1 newest (field (now (s .entry)) 4 1) ⌝ }
 {
-    fields::byte(s, 4) == 1
+    within(1, newest as u16, fields::byte(s, 4) as u16)
 }
 
 // The length field is what the formula gives.
@@ -78,7 +78,7 @@ pub(crate) fn none_from(word: u32, n: u8) -> bool
 // ---- the rules that name no row
 
 // Such a rule is broken: "A and B are 0 where not named".
-fn refused(why: FormRefusal) -> Pass
+pub(crate) fn refused(why: FormRefusal) -> Pass
     ensures { λ r. ⌜ passNumbers r ≡ some (refusalIn (formNumber why) 0) ⌝ }
 {
     Pass::Refused(refusal(why, 0))
@@ -92,16 +92,16 @@ pub(crate) struct Names {
     pub(crate) formula: FormRefusal,
 }
 
-// Rules 1 to 4 of a model and 8 to 11 of a choice or a plan, "in list order": at least that many bytes, the version, the
-// counts as they were found to be, and the length that the formula gives.
-pub(crate) fn head(s: &[u8], names: Names, least: u8, counts: bool, wanted: u32) -> Pass
-    ensures { λ r. ⌜ passNumbers r ≡ headBreak (now (s .entry)) names least counts wanted ⌝ }
+// Rules 1 to 4 of a model and 8 to 11 of a choice or a plan, "in list order": at least that many bytes, a version up to the
+// newest, the counts as they were found to be, and the length that the formula gives.
+pub(crate) fn head(s: &[u8], names: Names, least: u8, newest: u8, counts: bool, wanted: u32) -> Pass
+    ensures { λ r. ⌜ passNumbers r ≡ headBreak (now (s .entry)) names least newest counts wanted ⌝ }
 {
     if !length_holds(s, least as usize) {
         let why = names.size;
         return refused(why);
     }
-    if !version_holds(s) {
+    if !version_holds(s, newest) {
         let why = names.version;
         return refused(why);
     }
@@ -127,5 +127,5 @@ pub(crate) fn second_head(s: &[u8], r: &[u8], first: u8, same_horizon: bool, wan
         counts: FormRefusal::SecondCounts,
         formula: FormRefusal::SecondFormula,
     };
-    head(r, names, first, counts_hold(s, r, same_horizon), wanted)
+    head(r, names, first, 1, counts_hold(s, r, same_horizon), wanted)
 }

@@ -1,25 +1,22 @@
-// The model record: "cores c (1 byte, 1..8), threads n (1 byte, 1..8), activities m (1 byte, 1..32), horizon H (2 bytes,
-// 1..4096). Then n thread rows of 10 bytes .. Then m activity rows of 15 bytes".
+// The model record. Its bytes say a page of several rounds (page), with its form rules (rules); what it means is the plain
+// model unrolled, and that is what the calls here hand out, of any bytes: a page of one round is its own plain model.
 use crate::Pass;
 use crate::form;
-use crate::form::Names;
 use crate::plan::Timing;
-use crate::rows;
-use crate::rows::Row;
-use crate::rows::RowRead;
-use schedule::FormRefusal;
 use schedule::Refusal;
 ghost use mathlib.Core.Path.{_≡_};
-ghost use Rattle.schedule.specs.Rule.{break, firstBreak};
+ghost use Rattle.schedule.specs.Rule.{firstBreak};
 ghost use Rattle.schedule.specs.Answers.{answer};
-ghost use Rattle.schedule.specs.Model.{model, modelForm, modelLength, threadRow, activityRow};
-ghost use Rattle.records.specs.Rows.{sizesOf, threadRowOf, activityRowOf};
-ghost use Rattle.records.specs.Rows.{limitsHold, threadHolds, activityHolds, masksHold, timingHolds};
-ghost use Rattle.records.specs.Reads.{rowAnswer, rowReadNumbers, passNumbers, modelReadNumbers};
-ghost use Rattle.records.specs.RowRules.{rowRule, rowAt, rowRules};
+ghost use Rattle.schedule.specs.Model.{model, modelForm};
+ghost use Rattle.records.specs.Rows.{sizesOf, threadRowOf, activityRowOf, timingHolds};
+ghost use Rattle.records.specs.Unrolled.{unrolledSizes, movedThread, movedActivity};
+ghost use Rattle.records.specs.Reads.{modelReadNumbers};
+
+mod page;
+mod rules;
 
 // "A thread number and an activity number are separate countings: priority is looked up by an activity's thread." Only this
-// file makes a Thread, so that elsewhere one comes out of an activity's row and from nowhere else.
+// file and the two below it make a Thread, so that elsewhere one comes out of an activity's row and from nowhere else.
 pub struct Thread(u8);
 
 pub struct Activity(pub u8);
@@ -33,7 +30,7 @@ impl Thread {
     }
 }
 
-// The counts at the head of a model.
+// The counts of a model.
 pub struct Sizes {
     pub cores: u8,
     pub threads: u8,
@@ -60,211 +57,97 @@ pub struct ActivityRow {
     pub data_mask: u32,
 }
 
+// ---- the unrolled model
+
+// The counts of all rounds together, from those of one.
+fn in_all(one: Sizes, rounds: u8) -> Sizes
+    ensures { λ r. ⌜ r ≡ unrolledSizes one rounds ⌝ }
+{
+    Sizes {
+        cores: one.cores,
+        threads: unroll::in_all(rounds, one.threads),
+        activities: unroll::in_all(rounds, one.activities),
+        horizon: one.horizon,
+    }
+}
+
 // The counts, of any bytes.
 pub fn counts(s: &[u8]) -> Sizes
     ensures { λ r. ⌜ r ≡ sizesOf (model (now (s .entry))) ⌝ }
 {
-    Sizes {
-        cores: fields::byte(s, 5),
-        threads: fields::byte(s, 6),
-        activities: fields::byte(s, 7),
-        horizon: fields::be16(s, 8),
+    in_all(page::counts(s), page::rounds(s))
+}
+
+// A thread's row in round k: "its release range moved on by k times the period".
+fn moved_thread(row: ThreadRow, k: u8) -> ThreadRow
+    ensures { λ r. ⌜ r ≡ movedThread k row ⌝ }
+{
+    ThreadRow {
+        least_period: row.least_period,
+        most_period: row.most_period,
+        least_release: unroll::release(k, row.least_period, row.least_release),
+        most_release: unroll::release(k, row.least_period, row.most_release),
+        priority: row.priority,
     }
 }
 
-// Where thread row j begins.
-fn thread_at(j: u8) -> usize
-    ensures { λ r. ⌜ r ≡ threadRow j ⌝ }
-{
-    10 + 10 * (j as usize)
-}
-
-// Where activity row a begins, behind the rows of that many threads.
-fn activity_at(threads: u8, a: u8) -> usize
-    ensures { λ r. ⌜ r ≡ activityRow threads a ⌝ }
-{
-    thread_at(threads) + 15 * (a as usize)
-}
-
-// Thread row j, of any bytes.
+// Thread row j, of any bytes; zeros where there is none.
 pub fn thread_row(s: &[u8], j: Thread) -> ThreadRow
     ensures { λ r. ⌜ r ≡ threadRowOf (model (now (s .entry))) (j .0) ⌝ }
 {
     let number = j.0;
-    let at = thread_at(number);
-    ThreadRow {
-        least_period: fields::be16(s, at),
-        most_period: fields::be16(s, at + 2),
-        least_release: fields::be16(s, at + 4),
-        most_release: fields::be16(s, at + 6),
-        priority: fields::be16(s, at + 8),
+    let one = page::counts(s);
+    let all = in_all(one, page::rounds(s));
+    if all.threads <= number {
+        return ThreadRow {
+            least_period: 0,
+            most_period: 0,
+            least_release: 0,
+            most_release: 0,
+            priority: 0,
+        };
+    }
+    let row = page::thread_row(s, unroll::place(number, one.threads));
+    moved_thread(row, unroll::round(number, one.threads))
+}
+
+// An activity's row in round k, with its loop byte q: its thread is that of the round, and "Masks move likewise".
+fn moved_activity(row: ActivityRow, one: Sizes, k: u8, q: u8) -> ActivityRow
+    ensures { λ r. ⌜ r ≡ movedActivity one k q row ⌝ }
+{
+    let owner = row.thread;
+    let temporal = unroll::mask(k, one.activities, row.temporal_mask);
+    ActivityRow {
+        thread: Thread(unroll::number(k, one.threads, owner.0)),
+        least_duration: row.least_duration,
+        most_duration: row.most_duration,
+        delay: row.delay,
+        temporal_mask: unroll::with_loop(k, one.activities, q, temporal),
+        data_mask: unroll::mask(k, one.activities, row.data_mask),
     }
 }
 
-// Activity row a, of any bytes.
+// Activity row a, of any bytes; zeros where there is none.
 pub fn activity_row(s: &[u8], a: Activity) -> ActivityRow
     ensures { λ r. ⌜ r ≡ activityRowOf (model (now (s .entry))) (a .0) ⌝ }
 {
     let number = a.0;
-    let threads = fields::byte(s, 6);
-    let at = activity_at(threads, number);
-    let owner = fields::byte(s, at);
-    ActivityRow {
-        thread: Thread(owner),
-        least_duration: fields::be16(s, at + 1),
-        most_duration: fields::be16(s, at + 3),
-        delay: fields::be16(s, at + 5),
-        temporal_mask: fields::be32(s, at + 7),
-        data_mask: fields::be32(s, at + 11),
-    }
-}
-
-// ---- rules 3 and 4
-
-// "3 c, n, m or H outside its limits"
-fn limits_hold(x: Sizes) -> bool
-    ensures { λ r. ⌜ r ≡ limitsHold x ⌝ }
-{
-    if !form::within(1, 8, x.cores as u16) {
-        return false;
-    }
-    if !form::within(1, 8, x.threads as u16) {
-        return false;
-    }
-    if !form::within(1, 32, x.activities as u16) {
-        return false;
-    }
-    form::within(1, 4096, x.horizon)
-}
-
-// "Length 10 + 10n + 15m": where one more activity row would begin.
-fn formula(x: Sizes) -> u32
-    ensures { λ r. ⌜ r ≡ modelLength (x .threads) (x .activities) ⌝ }
-{
-    activity_at(x.threads, x.activities) as u32
-}
-
-// ---- rules 5 to 7, over the rows
-
-// "a least above its most, or least period 0 with most above 0"
-fn thread_holds(row: ThreadRow) -> bool
-    ensures { λ r. ⌜ r ≡ threadHolds row ⌝ }
-{
-    if row.most_period < row.least_period {
-        return false;
-    }
-    if row.most_release < row.least_release {
-        return false;
-    }
-    if row.least_period == 0 {
-        row.most_period == 0
-    } else {
-        true
-    }
-}
-
-// "thread ≥ n, least duration 0, or least above most"
-fn activity_holds(row: ActivityRow, threads: u8) -> bool
-    ensures { λ r. ⌜ r ≡ activityHolds threads row ⌝ }
-{
-    let thread = row.thread;
-    if threads <= thread.0 {
-        return false;
-    }
-    if row.least_duration == 0 {
-        return false;
-    }
-    row.least_duration <= row.most_duration
-}
-
-// "a bit at or above its own number in either mask"
-fn masks_hold(row: ActivityRow, number: u8) -> bool
-    ensures { λ r. ⌜ r ≡ masksHold number row ⌝ }
-{
-    if !form::none_from(row.temporal_mask, number) {
-        return false;
-    }
-    form::none_from(row.data_mask, number)
-}
-
-// The rules that are tried at the rows of a model, by name.
-pub(crate) enum RowRule {
-    // 5 "thread row A: a least above its most, or least period 0 with most above 0"
-    Thread,
-    // 6 "activity row A: thread ≥ n, least duration 0, or least above most"
-    Activity,
-    // 7 "row A: a bit at or above its own number in either mask"
-    Masks,
-}
-
-// How many rows a rule is tried at.
-fn rows_of(rule: RowRule, s: &[u8]) -> u8
-    ensures { λ r. ⌜ r ≡ rowRule rule (model (now (s .entry))) .rows ⌝ }
-{
-    let sizes = counts(s);
-    match rule {
-        RowRule::Thread => sizes.threads,
-        RowRule::Activity => sizes.activities,
-        RowRule::Masks => sizes.activities,
-    }
-}
-
-// Row number A of those that a rule is tried at, or its refusal.
-fn read_row(rule: RowRule, s: &[u8], number: u8) -> RowRead
-    ensures { λ r. ⌜ rowReadNumbers r
-        ≡ rowAnswer (rowRule rule (model (now (s .entry)))) number (rowAt rule (model (now (s .entry))) number) ⌝ }
-{
-    let a = number as u32;
-    match rule {
-        RowRule::Thread => {
-            let row = thread_row(s, Thread(number));
-            let holds = thread_holds(row);
-            rows::answer(holds, Row::Thread(row), FormRefusal::ThreadRow, a)
-        }
-        RowRule::Activity => {
-            let row = activity_row(s, Activity(number));
-            let holds = activity_holds(row, fields::byte(s, 6));
-            rows::answer(holds, Row::Activity(row), FormRefusal::ActivityRow, a)
-        }
-        RowRule::Masks => {
-            let row = activity_row(s, Activity(number));
-            let holds = masks_hold(row, number);
-            rows::answer(holds, Row::Activity(row), FormRefusal::MaskRow, a)
-        }
-    }
-}
-
-// A rule tried at every row: "lowest A first".
-fn over_rows(rule: RowRule, s: &[u8]) -> Pass
-    ensures { λ r. ⌜ passNumbers r ≡ break (rowRule rule (model (now (s .entry)))) ⌝ }
-{
-    let rows = rows_of(rule, s);
-    let mut number: u8 = 0;
-    while number < rows {
-        let read = read_row(rule, s, number);
-        let RowRead::Row(_) = read else {
-            return read.pass();
+    let one = page::counts(s);
+    let all = in_all(one, page::rounds(s));
+    if all.activities <= number {
+        return ActivityRow {
+            thread: Thread(0),
+            least_duration: 0,
+            most_duration: 0,
+            delay: 0,
+            temporal_mask: 0,
+            data_mask: 0,
         };
-        number += 1;
     }
-    Pass::Holds
-}
-
-// The rules of rows in their order: "Each number is tried over all its rows before the next".
-fn row_rules(s: &[u8]) -> Pass
-    ensures { λ r. ⌜ passNumbers r ≡ firstBreak (rowRules (model (now (s .entry)))) ⌝ }
-{
-    let order = [RowRule::Thread, RowRule::Activity, RowRule::Masks];
-    let mut k: usize = 0;
-    while k < order.len() {
-        let rule = order[k];
-        let pass = over_rows(rule, s);
-        if let Pass::Refused(_) = pass {
-            return pass;
-        }
-        k += 1;
-    }
-    Pass::Holds
+    let place = unroll::place(number, one.activities);
+    let k = unroll::round(number, one.activities);
+    let q = page::loop_byte(s, place);
+    moved_activity(page::activity_row(s, place), one, k, q)
 }
 
 // ---- rule 12, of a choice or a plan
@@ -280,7 +163,7 @@ pub(crate) fn in_range(s: &[u8], j: u8, x: Timing) -> bool
     form::within(range.least_period, range.most_period, x.period)
 }
 
-// ---- the model
+// ---- the form rules
 
 // What reading a model answers.
 pub enum ModelRead {
@@ -288,24 +171,17 @@ pub enum ModelRead {
     Refused(Refusal),
 }
 
-// "The model is tried first, in list order": rules 1 to 4, then those of the rows.
+// "The model is tried first, in list order": rules 1 to 4 and 51, then those of the rows.
 pub fn read(s: &[u8]) -> ModelRead
     ensures { λ r. ⌜ modelReadNumbers r ≡ answer (firstBreak (modelForm (now (s .entry)))) (sizesOf (model (now (s .entry)))) ⌝ }
 {
-    let sizes = counts(s);
-    let names = Names {
-        size: FormRefusal::ModelSize,
-        version: FormRefusal::ModelVersion,
-        counts: FormRefusal::ModelLimits,
-        formula: FormRefusal::ModelFormula,
-    };
-    let head = form::head(s, names, 10, limits_hold(sizes), formula(sizes));
+    let head = rules::head(s);
     if let Pass::Refused(x) = head {
         return ModelRead::Refused(x);
     }
-    let rows = row_rules(s);
+    let rows = rules::row_rules(s);
     if let Pass::Refused(x) = rows {
         return ModelRead::Refused(x);
     }
-    ModelRead::Model(sizes)
+    ModelRead::Model(counts(s))
 }

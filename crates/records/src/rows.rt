@@ -15,6 +15,7 @@ pub enum Row {
     // of a model
     Thread(ThreadRow),
     Activity(ActivityRow),
+    Loop(u8),
     // of a choice or a plan
     Timing(Timing),
     Duration(u16),

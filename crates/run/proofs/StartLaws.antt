@@ -13,10 +13,10 @@ use lib.ListN.{length, getD, set, replicate, getD-replicate, length-set}
 use lib.Seq.{getD-set-same, getD-set-other}
 use Rattle.schedule.specs.Bounded.{bit, lowest, table}
 use Rattle.schedule.specs.Plan.{wordIn}
-use Rattle.bits.specs.WithBit.{withoutBit}
+use Rattle.schedule.specs.Bounded.{withoutBit}
 use Rattle.laws.proofs.Tests.{T-or}
 use Rattle.laws.proofs.Counting.{decT, T-true, T-false}
-use Rattle.bits.proofs.WordLaws.{bit-and, bit-not, bit-or, bit-zero}
+use Rattle.laws.proofs.WordLaws.{bit-and, bit-not, bit-or, bit-zero}
 use Rattle.bits.proofs.Apart.{lowest-lt, lowest-set, gone, kept, still-within, none-taken}
 use Rattle.run.specs.Front.{startIn, Entered}
 use Rattle.tables.proofs.TableLaws.{table-whole}

@@ -1,7 +1,7 @@
 -- Quantifiers, counting, sums, extremes and search over the numbers below a bound, and a word as a set of small numbers.
 -- Assumes nothing.
-use Prim.Native.Nat.{ℕ, zero, suc, _+_, _/_, _%_, _^_, max, min}
-use mathlib.Core.Bool.{Bool, true, false, _&&_, cond}
+use Prim.Native.Nat.{ℕ, zero, suc, _+_, _-_, _/_, _%_, _^_, max, min}
+use mathlib.Core.Bool.{Bool, true, false, _&&_, not, cond}
 use mathlib.Core.List.{List, [], _∷_, _++_}
 use mathlib.Core.Option.{Option, some, none}
 use lib.Dec.{eqb, ltb}
@@ -61,6 +61,14 @@ chain (suc n) f = chain n f ++ f n
 -- bit b of a word, worth 2 to the power b
 unfoldable pub bit : ℕ → ℕ → Bool
 bit w b = eqb (w / 2 ^ b % 2) 1
+
+-- a 32-bit word with bit b set; a bit from 32 on is no bit of the word, and changes nothing
+unfoldable pub withBit : ℕ → ℕ → ℕ
+withBit w b = cond (ltb b 32 && not (bit w b)) (w + 2 ^ b) w
+
+-- and with bit b cleared
+unfoldable pub withoutBit : ℕ → ℕ → ℕ
+withoutBit w b = cond (ltb b 32 && bit w b) (w - 2 ^ b) w
 
 -- the word whose bits below n are those b that have p
 unfoldable pub wordOf : ℕ → (ℕ → Bool) → ℕ

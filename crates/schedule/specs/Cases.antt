@@ -10,6 +10,7 @@ use Rattle.schedule.specs.Bounded
 use Rattle.schedule.specs.Fields
 use Rattle.schedule.specs.Rule
 use Rattle.schedule.specs.Model
+use Rattle.schedule.specs.ModelBytes
 use Rattle.schedule.specs.Timing
 use Rattle.schedule.specs.Choice
 use Rattle.schedule.specs.Plan
@@ -22,6 +23,7 @@ use Rattle.schedule.specs.Streams
 use Rattle.schedule.specs.Lines
 use Rattle.schedule.specs.Bounded.{table}
 use Rattle.schedule.specs.Model.{model}
+use Rattle.schedule.specs.ModelBytes.{modelBytes}
 use Rattle.schedule.specs.Choice.{choice}
 use Rattle.schedule.specs.Plan.{plan}
 use Rattle.schedule.specs.Checks.{efe}
@@ -41,10 +43,11 @@ accepts u c h = accepted (record { usage = u; capacity = c; makespan = h })
 abbrev pub refuses : {F : Type 0} → ℕ → ℕ → ℕ → Answer F
 refuses number a b = refused (record { number = number; A = a; B = b })
 
--- What is asked: both checks of a model's and a plan's bytes, or the plan's efes; the run of a model's and a choice's
--- bytes, or the machine's words, starts or ends, or the bytes that it writes into a buffer of the plan's length; the report
--- of a model's and a choice's bytes with a lent list.
+-- What is asked: the version 1 record of the model that some bytes say; both checks of a model's and a plan's bytes, or the
+-- plan's efes; the run of a model's and a choice's bytes, or the machine's words, starts or ends, or the bytes that it writes
+-- into a buffer of the plan's length; the report of a model's and a choice's bytes with a lent list.
 pub data Question : Type 0 where
+  unrolls : List ℕ → Question
   check : List ℕ → List ℕ → Question
   efes : List ℕ → List ℕ → Question
   run : List ℕ → List ℕ → Question
@@ -68,6 +71,7 @@ printed (refused x) = refused x
 
 -- what the rules say
 unfoldable pub said : Question → Saying
+said (unrolls s) = numbers (modelBytes (model s))
 said (check s r) = verdicts (plainVerdict s r) (strictVerdict s r)
 said (efes s r) = numbers (table (model s .activities) (efe (model s) (plan r)))
 said (run s q) = verdict (printed (runAnswer s q runRoom))
@@ -88,10 +92,11 @@ Right cases = map (λ c. said (c .asked)) cases ≡ map (λ c. c .expected) case
 -- every definition of the rules, of the lines and of this file, to be unfolded together where a table is computed
 unfoldable pub every : Unit {0}
 unfolding Bounded.all Bounded.count Bounded.total Bounded.greatest Bounded.least Bounded.lowest Bounded.first
-    Bounded.table Bounded.chain Bounded.bit Bounded.wordOf Bounded.ones
+    Bounded.table Bounded.chain Bounded.bit Bounded.withBit Bounded.wordOf Bounded.ones
     Fields.field Fields.bytes
     Rule.break Rule.firstBreak
-    Model.model Model.modelForm Timing.inTime Choice.choice Choice.choiceForm Plan.plan Plan.planBytes Plan.planForm
+    Model.page Model.unrolled Model.model Model.modelForm ModelBytes.modelBytes
+    Timing.inTime Choice.choice Choice.choiceForm Plan.plan Plan.planBytes Plan.planForm
     Opened.form-rules Opened.check-rules
     Machine.endedBy Machine.ready Machine.before Machine.rank Machine.selected Machine.wordAt Machine.initial Machine.step
     Machine.stateAt Machine.machineWord Machine.machineStart Machine.machineEnd Machine.machineOwes

@@ -12,7 +12,8 @@ use Rattle.schedule.specs.declared.TickRule.{TickRule}
 use Rattle.schedule.specs.declared.RuleRefusal.{RuleRefusal}
 use Rattle.schedule.specs.Bounded.{all, count, greatest, ones, _⇒_}
 use Rattle.schedule.specs.Rule.{Rule, rulesNamed}
-use Rattle.schedule.specs.Model.{Model, priorityOf, temporally, byData, Within, within}
+use Rattle.schedule.specs.Records.{Within, within}
+use Rattle.schedule.specs.Model.{Model, priorityOf, temporally, byData}
 use Rattle.schedule.specs.Timing.{deadlineRule}
 use Rattle.schedule.specs.Plan.{Plan, planTiming, active}
 

@@ -7,7 +7,8 @@ use mathlib.Core.Path.{_≡_}
 use lib.Dec.{eqb}
 use Rattle.schedule.specs.Fields.{field, pairRow}
 use Rattle.schedule.specs.Rule.{Rule}
-use Rattle.schedule.specs.Model.{Model, lengthRule, versionRule, formulaRule, Within, within}
+use Rattle.schedule.specs.Records.{lengthRule, versionRule, formulaRule, Within, within}
+use Rattle.schedule.specs.Model.{Model}
 use Rattle.schedule.specs.Timing.{Timing}
 
 -- What a choice says: release and period by thread, duration by activity.
@@ -83,7 +84,7 @@ unfoldable pub choiceForm : Model → List ℕ → List Rule
 choiceForm m s =
     let q : Choice = choice s in
     lengthRule 8 7 s
-    ∷ versionRule 9 s
+    ∷ versionRule 9 1 s
     ∷ choiceCounts m q
     ∷ formulaRule 11 (choiceLength (q .threads) (q .activities)) s
     ∷ rangeRule m (q .release) (q .period)

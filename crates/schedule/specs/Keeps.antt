@@ -5,7 +5,8 @@ use Prim.Native.Nat.{ℕ, _+_, _≤_, _<_}
 use mathlib.Core.Path.{_≡_}
 use lib.Dec.{T}
 use Rattle.schedule.specs.Bounded.{ones}
-use Rattle.schedule.specs.Model.{Model, priorityOf, temporally, byData, Within}
+use Rattle.schedule.specs.Records.{Within}
+use Rattle.schedule.specs.Model.{Model, priorityOf, temporally, byData}
 use Rattle.schedule.specs.Timing.{InTime}
 use Rattle.schedule.specs.Plan.{Plan, planTiming, active}
 use Rattle.schedule.specs.Checks.{countOf, efe, Waiting, Window}

@@ -2,7 +2,11 @@
 pub mod Bounded
 pub mod Fields
 pub mod Rule
+pub mod Records
+pub mod Rounds
 pub mod Model
+pub mod Unrolls
+pub mod ModelBytes
 pub mod Timing
 pub mod Choice
 pub mod Plan
@@ -21,3 +25,5 @@ pub mod Mistakes
 pub mod Lateness
 pub mod Deadlines
 pub mod Listing
+pub mod Pages
+pub mod PageForms

@@ -2,6 +2,7 @@
 -- declared answer says, in the paper's numbers. crate laws, NumbersLaws, shows that no two answers say the same.
 -- Assumes nothing.
 use Prim.Native.Nat.{ℕ}
+use Rattle.schedule.specs.declared.RowRule.{RowRule}
 use Rattle.schedule.specs.declared.FormRefusal.{FormRefusal}
 use Rattle.schedule.specs.declared.ActivityRule.{ActivityRule}
 use Rattle.schedule.specs.declared.TickRule.{TickRule}
@@ -24,9 +25,12 @@ formNumber FormRefusal.ModelSize = 1
 formNumber FormRefusal.ModelVersion = 2
 formNumber FormRefusal.ModelLimits = 3
 formNumber FormRefusal.ModelFormula = 4
-formNumber FormRefusal.ThreadRow = 5
-formNumber FormRefusal.ActivityRow = 6
-formNumber FormRefusal.MaskRow = 7
+formNumber FormRefusal.Rounds = 51
+formNumber (FormRefusal.ModelRow RowRule.Thread) = 5
+formNumber (FormRefusal.ModelRow RowRule.Period) = 52
+formNumber (FormRefusal.ModelRow RowRule.Activity) = 6
+formNumber (FormRefusal.ModelRow RowRule.Loop) = 53
+formNumber (FormRefusal.ModelRow RowRule.Masks) = 7
 formNumber FormRefusal.SecondSize = 8
 formNumber FormRefusal.SecondVersion = 9
 formNumber FormRefusal.SecondCounts = 10

@@ -1,15 +1,17 @@
 -- Rules that the tables of cases and the proofs unfold together: where one of these names is unfolded, so is each definition
 -- on the name's own line.
 -- Assumes nothing.
+use Rattle.schedule.specs.Records
 use Rattle.schedule.specs.Model
 use Rattle.schedule.specs.Timing
 use Rattle.schedule.specs.Choice
 use Rattle.schedule.specs.Plan
 use Rattle.schedule.specs.Checks
 
--- rules 1 to 14, of the three records
+-- rules 1 to 14 and 51 to 53, of the three records
 unfoldable pub form-rules : Unit {0}
-unfolding Model.lengthRule Model.versionRule Model.limitsRule Model.formulaRule Model.threadRule Model.activityRule Model.maskRule
+unfolding Records.lengthRule Records.versionRule Records.formulaRule
+    Model.limitsRule Model.roundsRule Model.threadRule Model.periodRule Model.activityRule Model.loopRule Model.maskRule
     Choice.choiceCounts Choice.rangeRule Choice.durationRule Plan.planCounts Plan.wordRule
 form-rules = tt
 

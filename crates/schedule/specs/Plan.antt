@@ -9,7 +9,8 @@ use lib.ListN.{length, drop}
 use Rattle.schedule.specs.Bounded.{all, bit, chain, _⇒_}
 use Rattle.schedule.specs.Fields.{field, bytes, pair, pairRow}
 use Rattle.schedule.specs.Rule.{Rule}
-use Rattle.schedule.specs.Model.{Model, lengthRule, versionRule, formulaRule}
+use Rattle.schedule.specs.Records.{lengthRule, versionRule, formulaRule}
+use Rattle.schedule.specs.Model.{Model}
 use Rattle.schedule.specs.Timing.{Timing}
 use Rattle.schedule.specs.Choice.{rangeRule}
 
@@ -119,7 +120,7 @@ unfoldable pub planForm : Model → List ℕ → List Rule
 planForm m s =
     let p : Plan = plan s in
     lengthRule 8 9 s
-    ∷ versionRule 9 s
+    ∷ versionRule 9 1 s
     ∷ planCounts m p
     ∷ formulaRule 11 (planLength (p .threads) (p .activities) (p .horizon)) s
     ∷ rangeRule m (p .release) (p .period)

@@ -6,7 +6,21 @@ pub struct Place {
     pub b: u32,
 }
 
-// Refusals 1 to 14, "From the input", in the paper's order.
+// The rules of a model's rows, in the order in which they are tried.
+pub enum RowRule {
+    // 5 "thread row A: a least above its most, or least period 0 with most above 0"
+    Thread,
+    // 52 "thread A with i above 1 and unequal period ends, or a moved release above 65535" (02)
+    Period,
+    // 6 "activity row A: thread ≥ n, least duration 0, or least above most"
+    Activity,
+    // 53 "activity A whose q is m or more but not 255" (02)
+    Loop,
+    // 7 "row A: a bit at or above its own number in either mask"
+    Masks,
+}
+
+// Refusals 1 to 14 and 51 to 53, "From the input", in the order in which they are tried.
 pub enum FormRefusal {
     // 1 "model under 10 bytes, or its length differs from the bytes given"
     ModelSize,
@@ -16,12 +30,10 @@ pub enum FormRefusal {
     ModelLimits,
     // 4 "model length differs from its formula"
     ModelFormula,
-    // 5 "thread row A: a least above its most, or least period 0 with most above 0"
-    ThreadRow,
-    // 6 "activity row A: thread ≥ n, least duration 0, or least above most"
-    ActivityRow,
-    // 7 "row A: a bit at or above its own number in either mask"
-    MaskRow,
+    // 51 "i outside 1..4, i times n above 8 or i times m above 32" (02)
+    Rounds,
+    // 5, 52, 6, 53 and 7
+    ModelRow(RowRule),
     // 8 "second record under 7 bytes (choice) or 9 (plan), or length differs from the bytes given"
     SecondSize,
     // 9 "its version"

@@ -10,10 +10,10 @@ use mathlib.Core.Path.{_≡_, sym, subst, ap₂, _∙_}
 use lib.ListN.{length, getD, set, List·getD-eq-default}
 use lib.Seq.{getD-set-same, getD-set-other}
 use Rattle.schedule.specs.Bounded.{bit, count, lowest}
-use Rattle.bits.specs.WithBit.{withoutBit}
+use Rattle.schedule.specs.Bounded.{withoutBit}
 use Rattle.laws.proofs.Counting.{count-le}
 use Rattle.laws.proofs.Steps.{count-next}
-use Rattle.bits.proofs.WordLaws.{bit-zero}
+use Rattle.laws.proofs.WordLaws.{bit-zero}
 use Rattle.bits.proofs.Apart.{lowest-lt, lowest-set, gone, kept}
 use Rattle.tables.specs.Counts.{Tallied}
 

@@ -19,7 +19,7 @@ use Rattle.laws.proofs.Counting.{T-false}
 use Rattle.laws.proofs.MachineLaws.{length-table, getD-table}
 use Rattle.laws.proofs.Steps.{table-next, zeros-at}
 use Rattle.laws.proofs.Words.{bit-high, bit-wordOf, word-ext, wordOf-lt}
-use Rattle.bits.proofs.WordLaws.{bit-and}
+use Rattle.laws.proofs.WordLaws.{bit-and}
 use Rattle.tables.specs.Columns.{TableOf, byActivity, amongActivities}
 
 -- ---- what a table holds

@@ -1,14 +1,17 @@
 //! Pairs of records for the comparison: sound ones, damaged ones, and plans that leave the rules in chosen places. A model
 //! stands with a plan for the checks or with a choice for the run and the report of lateness; a few pairs have the wrong
-//! one of the two.
+//! one of the two. Half of the models are of version 1, the others of one to four rounds.
 
 use crate::random::Random;
-use crate::records::{set_length, ActivityRow, Choice, Model, Plan, ThreadRow};
+use crate::records::{set_length, ActivityRow, Choice, Model, Plan, Rounds, ThreadRow, NO_LOOP};
 
 /// A pair of records, and the calls that it is for.
 pub struct Case {
     pub kind: &'static str,
     pub model: Vec<u8>,
+    /// The record of version 1 of the unrolled model, which must be answered alike; none where the model is of version 1,
+    /// or damaged.
+    pub unrolled: Option<Vec<u8>>,
     pub second: Vec<u8>,
     /// Whether the two checks are asked.
     pub checked: bool,
@@ -84,11 +87,14 @@ fn size(random: &mut Random) -> Size {
     }
 }
 
-/// A model that meets its form rules, without periods and with the longest horizon.
+/// A model that meets its form rules, with the longest horizon. It has periods only if there are several rounds.
 fn model(random: &mut Random) -> Model {
     let size = size(random);
-    let n = if size.largest { size.threads } else { random.within(1, size.threads) };
-    let m = if size.largest { size.activities } else { random.within(1, size.activities) };
+    let rounds = random.pick(&[None, None, None, None, Some(1), Some(2), Some(3), Some(4)]);
+    let most_threads = size.threads.min(8 / rounds.unwrap_or(1));
+    let most_activities = size.activities.min(32 / rounds.unwrap_or(1));
+    let n = if size.largest { most_threads } else { random.within(1, most_threads) };
+    let m = if size.largest { most_activities } else { random.within(1, most_activities) };
     let cores = match random.below(8) {
         0..=3 => 1,
         4..=5 => 2,
@@ -104,7 +110,9 @@ fn model(random: &mut Random) -> Model {
             let huge = huge_release && random.one_in(2);
             let least = if huge { random.pick(&[4096, 65000, 65532]) } else { random.below(releases + 1) as u16 };
             let most = least + random.below(4) as u16;
-            ThreadRow { period: (0, 0), release: (least, most), priority: random.below(priorities) as u16 }
+            let period = if random.one_in(3) { 0 } else { random.pick(&[1, 2, 4, 7, 12, 30]) };
+            let period = period.min(most_period(most, rounds.unwrap_or(1)));
+            ThreadRow { period: (period, period), release: (least, most), priority: random.below(priorities) as u16 }
         })
         .collect();
     let delays = random.pick(&[0, 0, 3, 6]);
@@ -124,7 +132,27 @@ fn model(random: &mut Random) -> Model {
             }
         })
         .collect();
-    Model { cores: cores as u8, horizon: 4096, threads, activities }
+    let rounds = rounds.map(|count| Rounds { count: count as u8, loops: loops(random, m) });
+    Model { cores: cores as u8, horizon: 4096, threads, activities, rounds }
+}
+
+/// The greatest period of a thread with this most release that 52 allows; 0 where there is one round.
+fn most_period(most_release: u16, rounds: usize) -> u16 {
+    match rounds {
+        1 => 0,
+        _ => (65535 - most_release) / (rounds as u16 - 1),
+    }
+}
+
+/// A loop byte for each of `m` rows: none, or the row itself, an earlier one or a later one.
+fn loops(random: &mut Random, m: usize) -> Vec<u8> {
+    let thinness = random.pick(&[1, 2, 2, 4, 1000]);
+    let row = |a: usize| match random.below(3 * thinness) {
+        0 => a as u8,
+        1..=2 => random.below(m) as u8,
+        _ => NO_LOOP,
+    };
+    (0..m).map(row).collect()
 }
 
 /// A mask of bits below `limit`, each set once in `thinness` on average.
@@ -132,6 +160,7 @@ fn mask(random: &mut Random, limit: usize, thinness: usize) -> u32 {
     (0..limit).filter(|_| random.one_in(thinness)).map(|b| 1 << b).sum()
 }
 
+/// A choice for a model of one round.
 fn choice(random: &mut Random, model: &Model) -> Choice {
     let mut between = |range: (u16, u16)| random.within(range.0.into(), range.1.into()) as u16;
     Choice {
@@ -214,9 +243,12 @@ struct Page {
 /// A page whose grid was filled with these habits; the horizon and the periods leave it room.
 fn page(random: &mut Random, habits: fn(&mut Random, &Model) -> Habits) -> Page {
     let mut model = model(random);
-    let mut choice = choice(random, &model);
-    let habits = habits(random, &model);
-    let mut words = fill(random, &model, &choice, &habits);
+    let mut choice = choice(random, &model.unrolled());
+    let habits = habits(random, &model.unrolled());
+    let mut words = fill(random, &model.unrolled(), &choice, &habits);
+    while lengthen_periods(random, &mut model, &mut choice, &words) {
+        words = fill(random, &model.unrolled(), &choice, &habits);
+    }
     if words.len() < 4096 {
         let room = random.pick(&[0, 0, 1, 2, 5]);
         words.resize(usize::min(words.len() + room, 4096), 0);
@@ -225,15 +257,53 @@ fn page(random: &mut Random, habits: fn(&mut Random, &Model) -> Habits) -> Page 
         words.truncate(random.pick(&[20, 20, 20, 20, 4096]));
     }
     model.horizon = words.len() as u16;
-    let plan = Plan::of_words(choice.threads.clone(), model.activities.len(), words);
+    let plan = Plan::of_words(choice.threads.clone(), choice.durations.len(), words);
     let ends: Vec<usize> = plan.rows.iter().map(|row| row.1.into()).collect();
     set_periods(random, &mut model, &mut choice, &ends, 0);
     let plan = Plan { threads: choice.threads.clone(), ..plan };
     Page { model, choice, plan }
 }
 
+/// Gives each thread whose ends pass a deadline a longer period, or none; whether there was such a thread.
+fn lengthen_periods(random: &mut Random, model: &mut Model, choice: &mut Choice, words: &[u32]) -> bool {
+    let plan = Plan::of_words(choice.threads.clone(), choice.durations.len(), words.to_vec());
+    let mut changed = false;
+    for j in 0..model.threads.len() {
+        let ThreadRow { period, release, .. } = model.threads[j];
+        let taken = taken(model, &plan, j);
+        if period.0 > 0 && taken > period.0.into() {
+            let longer = taken + random.pick(&[0, 0, 1, 3]);
+            let fits = longer <= most_period(release.1, model.rounds()).into() && !random.one_in(6);
+            change_period(model, choice, j, if fits { longer as u16 } else { 0 });
+            changed = true;
+        }
+    }
+    changed
+}
+
+/// The most ticks from a release of the thread of row `j` to an end of its activities, over all rounds.
+fn taken(model: &Model, plan: &Plan, j: usize) -> usize {
+    let (n, m) = (model.threads.len(), model.activities.len());
+    let owned = |(number, _): &(usize, &(u16, u16))| usize::from(model.activities[number % m].thread) == j;
+    let ticks = |(number, row): (usize, &(u16, u16))| row.1.saturating_sub(plan.threads[number / m * n + j].0);
+    plan.rows.iter().enumerate().filter(owned).map(ticks).max().unwrap_or(0).into()
+}
+
+/// Gives the thread of row `j` this period, and each round's release its old place in the moved range.
+fn change_period(model: &mut Model, choice: &mut Choice, j: usize, period: u16) {
+    let old = model.threads[j].period.0;
+    model.threads[j].period = (period, period);
+    for (k, chosen) in choice.threads.iter_mut().skip(j).step_by(model.threads.len()).enumerate() {
+        *chosen = (chosen.0 - k as u16 * old + k as u16 * period, period);
+    }
+}
+
 /// Gives half of the threads a period that their ends keep after the release, and one in `late` of those a shorter one.
+/// With several rounds the periods stand already.
 fn set_periods(random: &mut Random, model: &mut Model, choice: &mut Choice, ends: &[usize], late: usize) {
+    if model.rounds() > 1 {
+        return shorten_periods(random, model, choice, late);
+    }
     for j in 0..model.threads.len() {
         if random.one_in(2) {
             continue;
@@ -252,6 +322,17 @@ fn set_periods(random: &mut Random, model: &mut Model, choice: &mut Choice, ends
         let most = random.pick(&[period, period + 3, 65535]).min(65535);
         model.threads[j].period = (least as u16, most as u16);
         choice.threads[j].1 = period as u16;
+    }
+}
+
+/// Shortens one period in `late`, none for 0.
+fn shorten_periods(random: &mut Random, model: &mut Model, choice: &mut Choice, late: usize) {
+    for j in 0..model.threads.len() {
+        let period = model.threads[j].period.0;
+        if late > 0 && random.one_in(late) && period > 1 {
+            let shorter = random.pick(&[period - 1, period / 2, 1]);
+            change_period(model, choice, j, shorter);
+        }
     }
 }
 
@@ -296,11 +377,17 @@ fn rows(random: &mut Random) -> Vec<i32> {
 
 fn run_case(random: &mut Random, model: &Model, choice: &Choice) -> Case {
     let buffer = Some(buffer(random, model.plan_length()));
-    Case { kind: "", model: model.bytes(), second: choice.bytes(), checked: false, buffer, rows: None }
+    Case { buffer, ..case(model, choice.bytes()) }
 }
 
 fn plan_case(page: &Page) -> Case {
-    Case { kind: "", model: page.model.bytes(), second: page.plan.bytes(), checked: true, buffer: None, rows: None }
+    Case { checked: true, ..case(&page.model, page.plan.bytes()) }
+}
+
+/// A pair for no call yet.
+fn case(model: &Model, second: Vec<u8>) -> Case {
+    let unrolled = model.rounds.as_ref().map(|_| model.unrolled().bytes());
+    Case { kind: "", model: model.bytes(), unrolled, second, checked: false, buffer: None, rows: None }
 }
 
 /// A plan where the run wants a choice, or a choice where the checks want a plan; all four calls are asked.
@@ -464,7 +551,8 @@ fn other_durations(random: &mut Random, page: &mut Page) {
     for _ in 0..random.within(1, 2) {
         let a = random.below(page.plan.rows.len());
         let count = page.choice.durations[a];
-        page.model.activities[a].duration =
+        let row = a % page.model.activities.len();
+        page.model.activities[row].duration =
             if count > 1 && random.one_in(2) { (1, count - 1) } else { (count + 1, count + 2) };
     }
 }
@@ -539,11 +627,16 @@ fn random_bytes(random: &mut Random) -> Case {
     if model.len() >= 10 && !random.one_in(4) {
         let n = random.within(0, 3);
         let m = random.within(0, 3);
+        let version = random.within(1, 2);
         if !random.one_in(4) {
-            model.resize(10 + 10 * n + 15 * m, 0);
+            model.resize(first_row(version) + 10 * n + row_width(version) * m, 0);
         }
-        let head = [0, 0, 0, 0, 1, random.within(0, 9) as u8, n as u8, m as u8, 0, random.below(9) as u8];
+        let cores = random.within(0, 9) as u8;
+        let head = [0, 0, 0, 0, version as u8, cores, n as u8, m as u8, 0, random.below(9) as u8];
         model[..10].copy_from_slice(&head);
+        if version == 2 && model.len() > 10 {
+            model[10] = random.within(0, 5) as u8;
+        }
         set_length(&mut model);
     }
     let length = random.below(60);
@@ -553,7 +646,17 @@ fn random_bytes(random: &mut Random) -> Case {
     }
     let length = random.below(60);
     let buffer = Some(random.bytes(length));
-    Case { kind: "", model, second, checked: true, buffer, rows: None }
+    Case { kind: "", model, unrolled: None, second, checked: true, buffer, rows: None }
+}
+
+/// Where the rows of a model of this version begin.
+fn first_row(version: usize) -> usize {
+    9 + version
+}
+
+/// The bytes of an activity row of this version.
+fn row_width(version: usize) -> usize {
+    14 + version
 }
 
 /// A sound page as a run or as a plan.
@@ -566,9 +669,10 @@ fn sound_case(random: &mut Random) -> (Page, Case) {
 fn damaged_model(random: &mut Random) -> Case {
     let (page, mut case) = sound_case(random);
     for _ in 0..random.pick(&[1, 1, 2, 3]) {
-        let number = random.within(1, 7);
+        let number = random.pick(&[1, 2, 3, 4, 51, 5, 52, 6, 53, 7]);
         damage_model(random, number, &page.model, &mut case.model);
     }
+    case.unrolled = None;
     match random.below(6) {
         0 => case.second.clear(),
         1 => damage_second_head(random, &mut case.second),
@@ -577,20 +681,22 @@ fn damaged_model(random: &mut Random) -> Case {
     case
 }
 
-/// Breaks the form rule of this number, most of the time.
+/// Breaks the form rule of this number, most of the time; 51 to 53 only in version 2.
 fn damage_model(random: &mut Random, number: usize, model: &Model, bytes: &mut Vec<u8>) {
     let n = model.threads.len();
     let m = model.activities.len();
+    let version = if model.rounds.is_some() { 2 } else { 1 };
+    let (head, width) = (first_row(version), row_width(version));
     // An earlier damage may have changed the length.
-    if bytes.len() != 10 + 10 * n + 15 * m {
+    if bytes.len() != head + 10 * n + width * m {
         return;
     }
-    let thread_row = 10 + 10 * random.below(n);
+    let thread_row = head + 10 * random.below(n);
     let a = random.below(m);
-    let activity_row = 10 + 10 * n + 15 * a;
+    let activity_row = head + 10 * n + width * a;
     match number {
         1 => damage_length(random, bytes),
-        2 => bytes[4] = random.pick(&[0, 2, 3, 255]),
+        2 => bytes[4] = random.pick(&[0, 3 - version as u8, 3, 255]),
         3 => match random.below(4) {
             0 => bytes[5] = random.pick(&[0, 9, 255]),
             1 => bytes[6] = random.pick(&[0, 9, 255]),
@@ -615,10 +721,27 @@ fn damage_model(random: &mut Random, number: usize, model: &Model, bytes: &mut V
             1 => put_pair(bytes, activity_row + 1, (0, random.pick(&[0, 1, 256]))),
             _ => put_pair(bytes, activity_row + 1, random.pick(&[(2, 1), (256, 255)])),
         },
-        _ => {
+        7 => {
             let bit = if random.one_in(2) { a } else { random.within(a, 31) };
             let mask = activity_row + random.pick(&[7, 11]);
             bytes[mask + 3 - bit / 8] |= 1 << (bit % 8);
+        }
+        _ if version == 1 => {}
+        51 => bytes[10] = random.pick(&[0, 5, 255, 8 / n as u8 + 1, 32 / m as u8 + 1]),
+        52 => damage_moved_range(random, model.rounds(), &mut bytes[thread_row..]),
+        _ => bytes[activity_row + 15] = random.pick(&[m as u8, m as u8 + 1, 254]),
+    }
+}
+
+/// Unequal period ends, or a most release that is moved to 65535 or just above.
+fn damage_moved_range(random: &mut Random, rounds: usize, row: &mut [u8]) {
+    match random.below(4) {
+        0 => put_pair(row, 0, random.pick(&[(1, 2), (255, 256), (1, 65535)])),
+        _ => {
+            let period = random.pick(&[1, 2, 256, 16384, 21845]);
+            let most = 65535 - (rounds as u16 - 1) * period;
+            put_pair(row, 0, (period, period));
+            put_pair(row, 4, (0, most.saturating_add(random.pick(&[0, 1, 1, 2]))));
         }
     }
 }
@@ -645,7 +768,8 @@ fn damage_length(random: &mut Random, bytes: &mut Vec<u8>) {
 
 /// Another length than the formula's, told truly by the length field.
 fn resize_with_length(random: &mut Random, bytes: &mut Vec<u8>, least: usize) {
-    let length = random.pick(&[least, bytes.len() - 1, bytes.len() + 1, bytes.len() + 2, bytes.len() + 15]);
+    let other = random.pick(&[1, 2, 15, 16]);
+    let length = random.pick(&[least, bytes.len() - 1, bytes.len() + 1, bytes.len() + other]);
     bytes.resize(length.max(least), 0);
     set_length(bytes);
 }
@@ -676,12 +800,14 @@ fn outside(random: &mut Random, range: (u16, u16)) -> u16 {
     if random.one_in(2) { below.or(above) } else { above.or(below) }.unwrap_or(0)
 }
 
+/// Puts the release or the period of a thread, of any round, outside of its range.
 fn damage_chosen(random: &mut Random, model: &Model, threads: &mut [(u16, u16)]) {
     let j = random.below(threads.len());
+    let ThreadRow { release, period, .. } = model.unrolled().threads[j];
     if random.one_in(2) {
-        threads[j].0 = outside(random, model.threads[j].release);
+        threads[j].0 = outside(random, release);
     } else {
-        threads[j].1 = outside(random, model.threads[j].period);
+        threads[j].1 = outside(random, period);
     }
 }
 
@@ -703,7 +829,8 @@ fn damaged_choice(random: &mut Random) -> Case {
     if durations {
         for _ in 0..random.within(1, 2) {
             let a = random.below(page.choice.durations.len());
-            page.choice.durations[a] = outside(random, page.model.activities[a].duration);
+            let row = a % page.model.activities.len();
+            page.choice.durations[a] = outside(random, page.model.activities[row].duration);
         }
     }
     let mut case = run_case(random, &page.model, &page.choice);

@@ -16,12 +16,25 @@ pub struct ActivityRow {
     pub data: u32,
 }
 
+/// What a model of version 2 has besides.
+#[derive(Clone, Debug)]
+pub struct Rounds {
+    pub count: u8,
+    /// The loop byte of each activity row.
+    pub loops: Vec<u8>,
+}
+
+/// The loop byte of a row without a loop.
+pub const NO_LOOP: u8 = 255;
+
 #[derive(Clone, Debug)]
 pub struct Model {
     pub cores: u8,
     pub horizon: u16,
     pub threads: Vec<ThreadRow>,
     pub activities: Vec<ActivityRow>,
+    /// Of version 2; none for version 1.
+    pub rounds: Option<Rounds>,
 }
 
 /// Chosen release and period of a thread.
@@ -59,25 +72,72 @@ fn push_pair(bytes: &mut Vec<u8>, pair: (u16, u16)) {
 
 impl Model {
     pub fn bytes(&self) -> Vec<u8> {
-        let mut bytes = vec![0, 0, 0, 0, 1, self.cores, self.threads.len() as u8, self.activities.len() as u8];
+        let version = if self.rounds.is_some() { 2 } else { 1 };
+        let mut bytes = vec![0, 0, 0, 0, version, self.cores, self.threads.len() as u8, self.activities.len() as u8];
         bytes.extend(self.horizon.to_be_bytes());
+        bytes.extend(self.rounds.iter().map(|rounds| rounds.count));
         for thread in &self.threads {
             push_pair(&mut bytes, thread.period);
             push_pair(&mut bytes, thread.release);
             bytes.extend(thread.priority.to_be_bytes());
         }
-        for activity in &self.activities {
+        for (a, activity) in self.activities.iter().enumerate() {
             bytes.push(activity.thread);
             push_pair(&mut bytes, activity.duration);
             bytes.extend(activity.delay.to_be_bytes());
             bytes.extend(activity.temporal.to_be_bytes());
             bytes.extend(activity.data.to_be_bytes());
+            bytes.extend(self.rounds.iter().map(|rounds| rounds.loops[a]));
         }
         with_length(bytes)
     }
 
+    /// How many rounds there are; one in version 1.
+    pub fn rounds(&self) -> usize {
+        self.rounds.as_ref().map_or(1, |rounds| rounds.count.into())
+    }
+
+    /// Of the plan for the unrolled model.
     pub fn plan_length(&self) -> usize {
-        9 + 4 * self.threads.len() + 4 * self.activities.len() + 4 * usize::from(self.horizon)
+        9 + self.rounds() * 4 * (self.threads.len() + self.activities.len()) + 4 * usize::from(self.horizon)
+    }
+
+    /// The unrolled model, of version 1, of a model that meets its form rules.
+    pub fn unrolled(&self) -> Model {
+        let rounds = 0..self.rounds();
+        let rows = 0..self.activities.len();
+        Model {
+            threads: rounds.clone().flat_map(|k| self.threads.iter().map(move |thread| thread.moved(k))).collect(),
+            activities: rounds.flat_map(|k| rows.clone().map(move |a| self.activity(a, k))).collect(),
+            rounds: None,
+            ..*self
+        }
+    }
+
+    /// Activity `a` of round `k`.
+    fn activity(&self, a: usize, k: usize) -> ActivityRow {
+        let row = &self.activities[a];
+        let first = k * self.activities.len();
+        let looped = match &self.rounds {
+            Some(rounds) if k > 0 && rounds.loops[a] != NO_LOOP => {
+                1 << (first - self.activities.len() + usize::from(rounds.loops[a]))
+            }
+            _ => 0,
+        };
+        ActivityRow {
+            thread: (k * self.threads.len()) as u8 + row.thread,
+            temporal: row.temporal << first | looped,
+            data: row.data << first,
+            ..*row
+        }
+    }
+}
+
+impl ThreadRow {
+    /// The thread of this row in round `k`.
+    fn moved(&self, k: usize) -> ThreadRow {
+        let moved = k as u16 * self.period.0;
+        ThreadRow { release: (self.release.0 + moved, self.release.1 + moved), ..*self }
     }
 }
 

@@ -1,7 +1,9 @@
 //! The papers' rules as a plain program: the three records, the plain check, the strict check, the run and the report of
 //! lateness.
 //!
-//! The numbers in the comments are the paper's. Each number is tried over all its rows before the next one.
+//! The numbers in the comments are the paper's. Each number is tried over all its rows before the next one. A model of
+//! several rounds "means the plain model unrolled" (02): that one is made once the record has met its form rules, and
+//! everything behind speaks of it alone.
 
 use std::cmp::Reverse;
 
@@ -24,7 +26,7 @@ pub struct Figures {
     pub makespan: u32,
 }
 
-/// The plain check: 1 to 14, then 21 to 29.
+/// The plain check: 1 to 14 with 51 to 53, then 21 to 29.
 pub fn check_plain(model: &[u8], plan: &[u8]) -> Result<Figures, Refusal> {
     let model = read_model(model)?;
     let plan = read_plan(&model, plan)?;
@@ -112,6 +114,7 @@ struct Activity {
     data: u32,
 }
 
+/// A plain model of one round.
 struct Model {
     cores: u32,
     horizon: u32,
@@ -193,12 +196,36 @@ fn plan_length(model: &Model) -> usize {
     9 + 4 * model.threads.len() + 4 * model.activities.len() + 4 * model.horizon as usize
 }
 
-/// 1 to 7.
+/// What a model's record holds: "version 1 is one round without loops" (02).
+struct Written {
+    /// The rows as they stand in the record.
+    round: Model,
+    rounds: usize,
+    /// Of each activity the row that its loop byte names, if any.
+    loops: Vec<Option<usize>>,
+}
+
+/// The loop byte "for none".
+const NO_LOOP: u32 = 255;
+
+/// 1 to 7 and 51 to 53, then the unrolled model.
 fn read_model(bytes: &[u8]) -> Result<Model, Refusal> {
+    let written = read_written(bytes)?;
+    written.thread_ranges()?;
+    written.moved_releases()?;
+    written.activity_ranges()?;
+    written.loop_rows()?;
+    written.masks()?;
+    Ok(written.unrolled())
+}
+
+/// 1 to 4 and 51, then the rows.
+fn read_written(bytes: &[u8]) -> Result<Written, Refusal> {
     if bytes.len() < 10 || long(bytes, 0) as usize != bytes.len() {
         return refuse(1, 0, 0);
     }
-    if byte(bytes, 4) != 1 {
+    let version = byte(bytes, 4);
+    if version != 1 && version != 2 {
         return refuse(2, 0, 0);
     }
     let cores = byte(bytes, 5);
@@ -208,50 +235,149 @@ fn read_model(bytes: &[u8]) -> Result<Model, Refusal> {
     if !(1..=8).contains(&cores) || !(1..=8).contains(&n) || !(1..=32).contains(&m) || !(1..=4096).contains(&horizon) {
         return refuse(3, 0, 0);
     }
-    if bytes.len() != 10 + 10 * n + 15 * m {
+    // Version 2 "has after H a byte i, and each activity row ends with a loop byte".
+    let (head, width) = if version == 1 { (10, 15) } else { (11, 16) };
+    if bytes.len() != head + 10 * n + width * m {
         return refuse(4, 0, 0);
     }
-    let (thread_rows, activity_rows) = bytes[10..].split_at(10 * n);
-    let threads: Vec<Thread> = thread_rows
-        .chunks_exact(10)
-        .map(|row| Thread {
-            least_period: short(row, 0),
-            most_period: short(row, 2),
-            least_release: short(row, 4),
-            most_release: short(row, 6),
-            priority: short(row, 8),
-        })
-        .collect();
-    let activities: Vec<Activity> = activity_rows
-        .chunks_exact(15)
-        .map(|row| Activity {
-            thread: byte(row, 0) as usize,
-            least_duration: short(row, 1),
-            most_duration: short(row, 3),
-            delay: short(row, 5),
-            temporal: long(row, 7),
-            data: long(row, 11),
-        })
-        .collect();
-    for (j, thread) in threads.iter().enumerate() {
-        if thread.least_period > thread.most_period
-            || thread.least_release > thread.most_release
-            || (thread.least_period == 0 && thread.most_period > 0)
-        {
-            return refuse(5, j, 0);
-        }
+    let rounds = if version == 1 { 1 } else { byte(bytes, 10) as usize };
+    if !(1..=4).contains(&rounds) || rounds * n > 8 || rounds * m > 32 {
+        return refuse(51, 0, 0);
     }
-    for (a, activity) in activities.iter().enumerate() {
-        if activity.thread >= n || activity.least_duration == 0 || activity.least_duration > activity.most_duration {
-            return refuse(6, a, 0);
-        }
+    let (thread_rows, activity_rows) = bytes[head..].split_at(10 * n);
+    let activity_rows = activity_rows.chunks_exact(width);
+    let loop_byte = |row: &[u8]| if version == 1 { NO_LOOP } else { byte(row, 15) };
+    Ok(Written {
+        loops: activity_rows.clone().map(loop_byte).map(|q| (q != NO_LOOP).then_some(q as usize)).collect(),
+        round: Model {
+            cores,
+            horizon,
+            threads: thread_rows.chunks_exact(10).map(read_thread).collect(),
+            activities: activity_rows.map(read_activity).collect(),
+        },
+        rounds,
+    })
+}
+
+fn read_thread(row: &[u8]) -> Thread {
+    Thread {
+        least_period: short(row, 0),
+        most_period: short(row, 2),
+        least_release: short(row, 4),
+        most_release: short(row, 6),
+        priority: short(row, 8),
     }
-    for (a, activity) in activities.iter().enumerate() {
-        if has_bit_from(activity.temporal, a) || has_bit_from(activity.data, a) {
-            return refuse(7, a, 0);
-        }
+}
+
+fn read_activity(row: &[u8]) -> Activity {
+    Activity {
+        thread: byte(row, 0) as usize,
+        least_duration: short(row, 1),
+        most_duration: short(row, 3),
+        delay: short(row, 5),
+        temporal: long(row, 7),
+        data: long(row, 11),
     }
-    Ok(Model { cores, horizon, threads, activities })
+}
+
+impl Thread {
+    /// This thread in round k, "its release range moved on by k times the period (by 0 without one)". With several rounds
+    /// the two ends of the period range are equal.
+    fn in_round(&self, k: usize) -> Thread {
+        let moved = k as u32 * self.least_period;
+        Thread { least_release: self.least_release + moved, most_release: self.most_release + moved, ..*self }
+    }
+}
+
+impl Written {
+    /// 5
+    fn thread_ranges(&self) -> Result<(), Refusal> {
+        for (j, thread) in self.round.threads.iter().enumerate() {
+            if thread.least_period > thread.most_period
+                || thread.least_release > thread.most_release
+                || (thread.least_period == 0 && thread.most_period > 0)
+            {
+                return refuse(5, j, 0);
+            }
+        }
+        Ok(())
+    }
+
+    /// 52: "i above 1 and unequal period ends, or a moved release above 65535".
+    fn moved_releases(&self) -> Result<(), Refusal> {
+        if self.rounds == 1 {
+            return Ok(());
+        }
+        for (j, thread) in self.round.threads.iter().enumerate() {
+            let last = thread.in_round(self.rounds - 1);
+            if thread.least_period != thread.most_period || last.most_release > 65535 {
+                return refuse(52, j, 0);
+            }
+        }
+        Ok(())
+    }
+
+    /// 6
+    fn activity_ranges(&self) -> Result<(), Refusal> {
+        let n = self.round.threads.len();
+        for (a, activity) in self.round.activities.iter().enumerate() {
+            if activity.thread >= n || activity.least_duration == 0 || activity.least_duration > activity.most_duration
+            {
+                return refuse(6, a, 0);
+            }
+        }
+        Ok(())
+    }
+
+    /// 53, with one round as well.
+    fn loop_rows(&self) -> Result<(), Refusal> {
+        let m = self.round.activities.len();
+        for (a, looped) in self.loops.iter().enumerate() {
+            if looped.is_some_and(|q| q >= m) {
+                return refuse(53, a, 0);
+            }
+        }
+        Ok(())
+    }
+
+    /// 7
+    fn masks(&self) -> Result<(), Refusal> {
+        for (a, activity) in self.round.activities.iter().enumerate() {
+            if has_bit_from(activity.temporal, a) || has_bit_from(activity.data, a) {
+                return refuse(7, a, 0);
+            }
+        }
+        Ok(())
+    }
+
+    /// "The plain model unrolled: thread j of round k is thread k times n + j", "and activity a is k times m + a".
+    fn unrolled(&self) -> Model {
+        let mut threads = Vec::new();
+        let mut activities = Vec::new();
+        for k in 0..self.rounds {
+            for thread in &self.round.threads {
+                threads.push(thread.in_round(k));
+            }
+            for a in 0..self.round.activities.len() {
+                activities.push(self.activity_in_round(a, k));
+            }
+        }
+        Model { threads, activities, ..self.round }
+    }
+
+    /// Activity a of round k: "masks move likewise", and "with loop byte q, activity q of round k is a temporal
+    /// predecessor of a in round k + 1".
+    fn activity_in_round(&self, a: usize, k: usize) -> Activity {
+        let n = self.round.threads.len();
+        let m = self.round.activities.len();
+        let activity = &self.round.activities[a];
+        let moved = |mask: u32| bits(mask).map(|b| 1 << (k * m + b)).sum();
+        let mut temporal: u32 = moved(activity.temporal);
+        if let Some(q) = self.loops[a].filter(|_| k > 0) {
+            temporal |= 1 << ((k - 1) * m + q);
+        }
+        Activity { thread: k * n + activity.thread, temporal, data: moved(activity.data), ..*activity }
+    }
 }
 
 /// 8 to 13 of a choice.

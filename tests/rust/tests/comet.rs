@@ -74,6 +74,7 @@ fn model(input: &Block, delays: &[u16]) -> Model {
                 data: predecessors(&input.lines("dd"), a),
             })
             .collect(),
+        rounds: None,
     }
 }
 

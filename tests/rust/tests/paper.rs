@@ -25,6 +25,7 @@ fn model() -> Model {
             ActivityRow { thread: 1, duration: (2, 3), delay: 1, temporal: 0, data: 0 },
             ActivityRow { thread: 1, duration: (1, 1), delay: 0, temporal: 2, data: 1 },
         ],
+        rounds: None,
     }
 }
 

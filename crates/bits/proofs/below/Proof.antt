@@ -4,7 +4,7 @@ use native.Mathlib.Omega.{arith}
 use mathlib.Core.Path.{sym}
 use lib.Pow.{pow-pos}
 use borrow.Author.Needs.{needs}
-use Rattle.bits.proofs.WordLaws.{below-all, below-low, shl-one}
+use Rattle.laws.proofs.WordLaws.{below-all, below-low, shl-one}
 use Rattle.bits.proofs.below.Statement.{statement}
 use Rattle.bits.proofs.below.Tie as tie
 

@@ -1,6 +1,6 @@
 -- `bits::lowest` meets its contract. The zeros below the lowest digit that is set are its number.
 -- Assumes nothing.
-use Rattle.bits.proofs.WordLaws.{trailing-lowest}
+use Rattle.laws.proofs.WordLaws.{trailing-lowest}
 use Rattle.bits.proofs.lowest.Statement.{statement}
 use Rattle.bits.proofs.lowest.Tie as tie
 

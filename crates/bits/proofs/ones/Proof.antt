@@ -1,6 +1,6 @@
 -- `bits::ones` meets its contract. The counted digits are the sum of the bits.
 -- Assumes nothing.
-use Rattle.bits.proofs.WordLaws.{ones-digits}
+use Rattle.laws.proofs.WordLaws.{ones-digits}
 use Rattle.bits.proofs.ones.Statement.{statement}
 use Rattle.bits.proofs.ones.Tie as tie
 

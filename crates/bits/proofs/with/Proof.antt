@@ -2,7 +2,7 @@
 -- Assumes nothing.
 use mathlib.Core.Path.{sym}
 use borrow.Author.Needs.{needs}
-use Rattle.bits.proofs.WordLaws.{shl-one, with-high, with-or}
+use Rattle.laws.proofs.WordLaws.{shl-one, with-high, with-or}
 use Rattle.bits.proofs.with.Statement.{statement}
 use Rattle.bits.proofs.with.Tie as tie
 

@@ -2,7 +2,7 @@
 -- Assumes nothing.
 use mathlib.Core.Path.{sym}
 use borrow.Author.Needs.{needs}
-use Rattle.bits.proofs.WordLaws.{shl-one, without-and, without-high}
+use Rattle.laws.proofs.WordLaws.{shl-one, without-and, without-high}
 use Rattle.bits.proofs.without.Statement.{statement}
 use Rattle.bits.proofs.without.Tie as tie
 

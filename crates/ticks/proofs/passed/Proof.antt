@@ -12,7 +12,8 @@ returns : tie.Need-returns
 returns c = passed-from _ _ _ (c .if1 .taken)
 
 returns-2 : tie.Need-returns-2
-returns-2 c = let x = c .before .args in sym (lt-leb (x .end + x .delay) (x .t) (omega arith))
+returns-2 c =
+    let x = c .before .args in sym (lt-leb (x .end + x .delay) (x .t) (omega arith))
 
 pub passed-spec : {M : Type 1} → statement M
 passed-spec = tie.close (tie.spec returns returns-2)

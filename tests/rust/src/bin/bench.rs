@@ -152,7 +152,7 @@ fn page(name: &str, horizon: usize) -> Page {
             data: (shape.predecessors)(a),
         })
         .collect();
-    let model = Model { cores: shape.cores, horizon: horizon as u16, threads, activities };
+    let model = Model { cores: shape.cores, horizon: horizon as u16, threads, activities, rounds: None };
     let choice = Choice { threads: vec![(0, horizon as u16); shape.threads.into()], durations };
     let mut plan = vec![0; model.plan_length()];
     let (model, choice) = (model.bytes(), choice.bytes());

@@ -1,6 +1,6 @@
 //! Compares the exports with the reference over many pairs of records: a model and a plan by both checks, a model and a
 //! choice by the run and by the report of lateness, with the whole of what these two were lent; the report is then held
-//! against the exported run. It stops at the first difference, prints that case and exits with 1. It prints how often each
+//! against the exported run, and a page of version 2 against the record of version 1 of its unrolled model. It stops at the first difference, prints that case and exits with 1. It prints how often each
 //! call gave each answer, and exits with 1 if one that the call can give came fewer than a hundred times.
 //!
 //! `compare [CASES]` tries cases 0 to CASES - 1, `compare FIRST..END` those from FIRST to END - 1, of which no number of
@@ -28,10 +28,10 @@ const CALLS: [&str; 4] = ["plain", "strict", "run", "lateness"];
 /// How often each answer that a call can give must come.
 const LEAST: u64 = 100;
 /// What each call can answer, where 0 stands for accepted. 24 is out of the book (02): no call may answer it.
-const CHECKED: &[usize] = &[0, 1, 2, 3, 4, 5, 6, 7, 8, 9, 10, 11, 12, 14, 21, 22, 23, 25, 26, 27, 28, 29];
+const CHECKED: &[usize] = &[0, 1, 2, 3, 4, 51, 5, 52, 6, 53, 7, 8, 9, 10, 11, 12, 14, 21, 22, 23, 25, 26, 27, 28, 29];
 const CHECKED_STRICTLY: &[usize] = &[30, 31];
-const RUN: &[usize] = &[0, 1, 2, 3, 4, 5, 6, 7, 8, 9, 10, 11, 12, 13, 41, 42, 43];
-const LATENESS: &[usize] = &[0, 1, 2, 3, 4, 5, 6, 7, 8, 9, 10, 11, 12, 13, 42, 43, 50];
+const RUN: &[usize] = &[0, 1, 2, 3, 4, 51, 5, 52, 6, 53, 7, 8, 9, 10, 11, 12, 13, 41, 42, 43];
+const LATENESS: &[usize] = &[0, 1, 2, 3, 4, 51, 5, 52, 6, 53, 7, 8, 9, 10, 11, 12, 13, 42, 43, 50];
 
 /// How often each number was answered, for each call.
 #[derive(Clone)]
@@ -150,6 +150,26 @@ fn compare(case: &Case, counts: &mut Counts) -> Result<(), String> {
         }
         beside_the_run(case, before, answer, &rows)?;
     }
+    match &case.unrolled {
+        Some(unrolled) => beside_the_unrolled(case, unrolled),
+        None => Ok(()),
+    }
+}
+
+/// The exports answer and write the same for a page and for the record of version 1 of its unrolled model.
+fn beside_the_unrolled(case: &Case, unrolled: &[u8]) -> Result<(), String> {
+    let second = &case.second;
+    let answers = |model: &[u8]| {
+        let mut buffer = case.buffer.clone().unwrap_or_default();
+        let mut rows = case.rows.clone().unwrap_or_default();
+        let checked = [proved::check_plain(model, second), proved::check_strict(model, second)];
+        let filled = [proved::run(model, second, &mut buffer), proved::lateness(model, second, &mut rows)];
+        (checked, filled, buffer, rows)
+    };
+    let (page, plain) = (answers(&case.model), answers(unrolled));
+    if page != plain {
+        return Err(difference(case, "beside the unrolled model", plain, page));
+    }
     Ok(())
 }
 
@@ -157,12 +177,13 @@ fn compare(case: &Case, counts: &mut Counts) -> Result<(), String> {
 /// aside, the first negative row is the activity of 43, and a good run has none.
 fn beside_the_run(case: &Case, before: &[i32], answer: Answer, rows: &[i32]) -> Result<(), String> {
     let run = proved::run(&case.model, &case.second, &mut [MARGIN_BYTE; LONGEST_PLAN]);
-    let from_input = (1..=13).contains(&run.number);
+    let from_input = (1..=13).contains(&run.number) || (51..=53).contains(&run.number);
     let expected = if before.len() < 32 && !from_input { Answer::refused(50, 0, 0) } else { run };
     if answer != expected {
         return Err(difference(case, "lateness beside the run", expected, answer));
     }
-    let filled = if [0, 43].contains(&answer.number) { usize::from(case.model[7]) } else { 0 };
+    // The choice has the unrolled counts.
+    let filled = if [0, 43].contains(&answer.number) { usize::from(case.second[6]) } else { 0 };
     let first_late = rows[..filled].iter().position(|&row| row < 0 && row != DASH);
     let named = (answer.number == 43).then_some(answer.first as usize);
     if first_late != named || rows[filled..] != before[filled..] {

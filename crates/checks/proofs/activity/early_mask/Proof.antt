@@ -6,7 +6,7 @@ use mathlib.Core.Bool.{Bool, not}
 use mathlib.Core.Path.{_≡_, sym, ap, ap₂, _∙_}
 use lib.Dec.{leb}
 use Rattle.schedule.specs.Bounded.{_⇒_}
-use Rattle.bits.proofs.WordLaws.{mark-next, word-start}
+use Rattle.laws.proofs.WordLaws.{mark-next, word-start}
 use Rattle.checks.specs.Rules.{earlyFrom}
 use borrow.Author.Needs.{needs}
 use Rattle.checks.proofs.activity.early_mask.Statement.{statement}

@@ -33,7 +33,8 @@ unfolding sizesOf
 loop-holds c = (omega arith, ap (λ (y : Sizes). y .activities) (c .counts .ensures), c .before .before .before .pre, clear-start _)
 
 breaking-requires : tie.Need-breaking-requires Inv-loop μ-loop
-breaking-requires c κs = let l = c .before .loop in (l .inv .2, omega (arith, l .inv .1, c .loop-test .taken))
+breaking-requires c κs =
+    let l = c .before .loop in (l .inv .2, omega (arith, l .inv .1, c .loop-test .taken))
 
 lowest-requires : tie.Need-lowest-requires Inv-loop μ-loop
 lowest-requires c κs = search needs

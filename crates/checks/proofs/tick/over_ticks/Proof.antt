@@ -73,7 +73,8 @@ cast-at : tie.Need-cast-at Inv-loop μ-loop
 cast-at c = search needs
 
 at-requires : tie.Need-at-requires Inv-loop μ-loop
-at-requires c κs = let l = c .before .before .before .loop in (omega (arith, l .inv .2, l .inv .4 .few), l .inv .6)
+at-requires c κs =
+    let l = c .before .before .before .loop in (omega (arith, l .inv .2, l .inv .4 .few), l .inv .6)
 
 cast-word : tie.Need-cast-word Inv-loop μ-loop
 cast-word c = search needs

@@ -39,7 +39,8 @@ cast-at : tie.Need-cast-at Inv-loop μ-loop
 cast-at c = search needs
 
 at-requires : tie.Need-at-requires Inv-loop μ-loop
-at-requires c κs = let l = c .before .loop in (c .before .before .before .before .before .pre, l .inv .1)
+at-requires c κs =
+    let l = c .before .loop in (c .before .before .before .before .before .pre, l .inv .1)
 
 cast-word : tie.Need-cast-word Inv-loop μ-loop
 cast-word c = search needs

@@ -23,7 +23,8 @@ tick-requires : tie.Need-tick-requires
 tick-requires c κs = c .before .before .pre .0
 
 next-change-requires : tie.Need-next-change-requires
-next-change-requires c κs = let start = c .before .before .before in (start .pre .0, start .pre .1)
+next-change-requires c κs =
+    let start = c .before .before .before in (start .pre .0, start .pre .1)
 
 next-end-requires : tie.Need-next-end-requires
 next-end-requires c κs = search needs

@@ -4,7 +4,7 @@ use Prim.Native.Nat.{_≤_, _-_}
 use native.Mathlib.Omega.{arith}
 use mathlib.Core.Path.{_≡_, sym, ap, _∙_}
 use borrow.Author.Needs.{needs}
-use Rattle.bits.proofs.WordLaws.{mark-next, word-start}
+use Rattle.laws.proofs.WordLaws.{mark-next, word-start}
 use Rattle.machine.specs.Masks.{endedMask}
 use Rattle.machine.proofs.tick.ended.Statement.{statement}
 use Rattle.machine.proofs.tick.ended.Tie as tie

@@ -5,7 +5,7 @@ use native.Mathlib.Omega.{arith}
 use mathlib.Core.Path.{_≡_, sym, ap, _∙_}
 use borrow.Author.Needs.{needs}
 use Rattle.schedule.specs.Bounded.{wordOf}
-use Rattle.bits.proofs.WordLaws.{mark-next, word-start}
+use Rattle.laws.proofs.WordLaws.{mark-next, word-start}
 use Rattle.machine.specs.Masks.{selectedFrom}
 use Rattle.machine.proofs.tick.select.Statement.{statement}
 use Rattle.machine.proofs.tick.select.Tie as tie

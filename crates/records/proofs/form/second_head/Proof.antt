@@ -17,7 +17,7 @@ returns : tie.Need-returns
 returns c =
     let x = c .before .before .before .before .args in
     c .head .ensures
-    ∙ ap (λ (t : Bool). headBreak (x .r .now) secondNames (x .first) t (x .wanted)) (c .before .counts-hold .ensures)
+    ∙ ap (λ (t : Bool). headBreak (x .r .now) secondNames (x .first) 1 t (x .wanted)) (c .before .counts-hold .ensures)
 
 pub second-head-spec : {M : Type 1} → statement M
 second-head-spec = tie.close (tie.spec counts-hold-requires head-requires returns)

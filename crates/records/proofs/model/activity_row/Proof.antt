@@ -1,81 +1,58 @@
--- `model::activity_row` meets its contract: the fields read are those of the definition.
+-- `model::activity_row` meets its contract: a row of the page, moved on to its round, or zeros.
 -- Assumes nothing.
-use Rattle.schedule.specs.Model.{model}
-use Rattle.records.specs.Rows.{activityRowOf}
+use Rattle.records.proofs.UnrolledRows.{activity-past, activity-here}
 use borrow.Author.Needs.{needs}
 use Rattle.records.proofs.model.activity_row.Statement.{statement}
 use Rattle.records.proofs.model.activity_row.Tie as tie
 
-byte-requires : tie.Need-byte-requires
-byte-requires c κs = search needs
+counts-requires : tie.Need-counts-requires
+counts-requires c κs = search needs
 
-activity-at-requires : tie.Need-activity-at-requires
-activity-at-requires c κs = search needs
+rounds-requires : tie.Need-rounds-requires
+rounds-requires c κs = search needs
 
-byte-requires-2 : tie.Need-byte-requires-2
-byte-requires-2 c κs = search needs
-
-add-be16 : tie.Need-add-be16
-add-be16 c = search needs
-
-be16-requires : tie.Need-be16-requires
-be16-requires c κs = search needs
-
-add-be16-2 : tie.Need-add-be16-2
-add-be16-2 c = search needs
-
-be16-requires-2 : tie.Need-be16-requires-2
-be16-requires-2 c κs = search needs
-
-add-be16-3 : tie.Need-add-be16-3
-add-be16-3 c = search needs
-
-be16-requires-3 : tie.Need-be16-requires-3
-be16-requires-3 c κs = search needs
-
-add-be32 : tie.Need-add-be32
-add-be32 c = search needs
-
-be32-requires : tie.Need-be32-requires
-be32-requires c κs = search needs
-
-add-be32-2 : tie.Need-add-be32-2
-add-be32-2 c = search needs
-
-be32-requires-2 : tie.Need-be32-requires-2
-be32-requires-2 c κs = search needs
+in-all-requires : tie.Need-in-all-requires
+in-all-requires c κs = search needs
 
 returns : tie.Need-returns
-unfolding activityRowOf model
 returns c =
     let c2 = c .before .before in
-    let c4 = c2 .before .before in
-    rw (
-      ← c4 .before .before .before .byte .ensures,
-      ← c4 .before .before .activity-at .ensures,
-      ← c4 .before .byte2 .ensures,
-      ← c4 .be16 .ensures,
-      ← c2 .before .be162 .ensures,
-      ← c2 .be163 .ensures,
-      ← c .before .be32 .ensures,
-      ← c .be322 .ensures,
-    )
+    activity-past _ _ _ _ (c2 .before .before .counts .ensures) (c2 .before .rounds .ensures) (c2 .in-all .ensures) _ (c .if1 .taken)
+
+place-requires : tie.Need-place-requires
+place-requires c κs = search needs
+
+round-requires : tie.Need-round-requires
+round-requires c κs = search needs
+
+loop-byte-requires : tie.Need-loop-byte-requires
+loop-byte-requires c κs = search needs
+
+activity-row-requires : tie.Need-activity-row-requires
+activity-row-requires c κs = search needs
+
+moved-activity-requires : tie.Need-moved-activity-requires
+moved-activity-requires c κs = search needs
+
+returns-2 : tie.Need-returns-2
+returns-2 c =
+    let c4 = c .before .before .before .before in
+    let c7 = c4 .before .before .before in
+    activity-here _ _ _ _ (c7 .before .before .counts .ensures) (c7 .before .rounds .ensures) (c7 .in-all .ensures) _ _ _ _ _ _
+    (c4 .before .if1 .left) (c .before .before .before .round .ensures) (c4 .place .ensures)
+    (c .before .activity-row .ensures) (c .before .before .loop-byte .ensures) (c .moved-activity .ensures)
 
 pub activity-row-spec : {M : Type 1} → statement M
 activity-row-spec =
     tie.close
     (tie.spec
-    byte-requires
-    activity-at-requires
-    byte-requires-2
-    add-be16
-    be16-requires
-    add-be16-2
-    be16-requires-2
-    add-be16-3
-    be16-requires-3
-    add-be32
-    be32-requires
-    add-be32-2
-    be32-requires-2
-    returns)
+    counts-requires
+    rounds-requires
+    in-all-requires
+    returns
+    place-requires
+    round-requires
+    loop-byte-requires
+    activity-row-requires
+    moved-activity-requires
+    returns-2)

@@ -1,33 +1,22 @@
--- `model::counts` meets its contract: the fields read are those of the definition.
+-- `model::counts` meets its contract: the counts of one round, and of all.
 -- Assumes nothing.
+use mathlib.Core.Path.{_∙_}
+use Rattle.records.proofs.UnrolledRows.{all-counts}
 use borrow.Author.Needs.{needs}
-use Rattle.records.specs.Rows.{sizesOf}
-use Rattle.schedule.specs.Model.{model}
 use Rattle.records.proofs.model.counts.Statement.{statement}
 use Rattle.records.proofs.model.counts.Tie as tie
 
-byte-requires : tie.Need-byte-requires
-byte-requires c κs = search needs
+counts-requires : tie.Need-counts-requires
+counts-requires c κs = search needs
 
-byte-requires-2 : tie.Need-byte-requires-2
-byte-requires-2 c κs = search needs
+rounds-requires : tie.Need-rounds-requires
+rounds-requires c κs = search needs
 
-byte-requires-3 : tie.Need-byte-requires-3
-byte-requires-3 c κs = search needs
-
-be16-requires : tie.Need-be16-requires
-be16-requires c κs = search needs
+in-all-requires : tie.Need-in-all-requires
+in-all-requires c κs = search needs
 
 returns : tie.Need-returns
-unfolding sizesOf model
-returns c =
-    rw (
-      ← c .before .before .before .byte .ensures,
-      ← c .before .before .byte2 .ensures,
-      ← c .before .byte3 .ensures,
-      ← c .be16 .ensures,
-    )
+returns c = c .in-all .ensures ∙ all-counts _ _ _ (c .before .before .counts .ensures) (c .before .rounds .ensures)
 
 pub counts-spec : {M : Type 1} → statement M
-counts-spec =
-    tie.close (tie.spec byte-requires byte-requires-2 byte-requires-3 be16-requires returns)
+counts-spec = tie.close (tie.spec counts-requires rounds-requires in-all-requires returns)

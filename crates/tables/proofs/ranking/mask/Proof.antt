@@ -6,7 +6,7 @@ use mathlib.Core.Path.{_≡_, sym, ap, _∙_}
 use lib.ListN.{getD}
 use borrow.Author.Needs.{needs}
 use Rattle.schedule.specs.Bounded.{wordOf}
-use Rattle.bits.proofs.WordLaws.{mark-next, word-start}
+use Rattle.laws.proofs.WordLaws.{mark-next, word-start}
 use Rattle.tables.specs.Ranking.{ranks}
 use Rattle.tables.proofs.ranking.mask.Statement.{statement}
 use Rattle.tables.proofs.ranking.mask.Tie as tie

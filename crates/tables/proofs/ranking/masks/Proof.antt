@@ -33,7 +33,8 @@ loop-holds : tie.Need-loop-holds Inv-loop μ-loop
 loop-holds c = (omega arith, c .before .rows .ensures, filled-none _)
 
 mask-requires : tie.Need-mask-requires Inv-loop μ-loop
-mask-requires c κs = let l = c .before .before .loop in (omega (arith, l .inv .1), omega (arith, l .inv .1))
+mask-requires c κs =
+    let l = c .before .before .loop in (omega (arith, l .inv .1), omega (arith, l .inv .1))
 
 cast-table : tie.Need-cast-table Inv-loop μ-loop
 cast-table c = omega arith

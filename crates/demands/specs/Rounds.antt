@@ -1,0 +1,102 @@
+-- U4 of 02, "Several rounds on one page", as statements of every record: the page's model is the plain model unrolled, and the
+-- page answers as the version 1 record of its unrolled model does.
+-- Assumes nothing.
+use Prim.Native.Nat.{ℕ, _+_, _≤_, _<_}
+use mathlib.Core.List.{List}
+use mathlib.Core.Logic.{_↔_}
+use mathlib.Core.Path.{_≡_}
+use lib.IntN.{ℤ}
+use lib.ListN.{length}
+use Rattle.schedule.specs.Fields.{field, Bytes}
+use Rattle.schedule.specs.Rule.{AllHold}
+use Rattle.schedule.specs.Model.{Page, page, model, headRules}
+use Rattle.schedule.specs.Unrolls.{Unrolls}
+use Rattle.schedule.specs.ModelBytes.{modelBytes}
+use Rattle.schedule.specs.Answers.{accepted, plainVerdict, strictVerdict, Written, lengthNeeded, runAnswer, runBuffer}
+use Rattle.schedule.specs.Answers.{MeetsForm, WellFormed, PassesTests}
+use Rattle.schedule.specs.Report.{reportAnswer, reportRows}
+use Rattle.schedule.specs.Streams.{inputLimit, viewRefusal, viewWord}
+use Rattle.demands.specs.Strict.{Passes, SingleStrictPlan, planWritten}
+
+-- ---- the unrolled model is what the request says
+
+abbrev pub PagesUnroll : Type 0
+PagesUnroll = (s : List ℕ) → Bytes s → MeetsForm s → Unrolls (page s) (model s)
+
+-- ---- the page is its unrolled model
+
+-- Two records of a model get the same answers: every verdict with its figures or its number and place, every view, run, buffer
+-- and report, and the plans that demand 3 speaks of.
+pub record SameAnswers (s u : List ℕ) : Type 0 where
+  pub plain : (r : List ℕ) → plainVerdict s r ≡ plainVerdict u r
+  pub strict : (r : List ℕ) → strictVerdict s r ≡ strictVerdict u r
+  pub view : (r : List ℕ) → viewRefusal s r ≡ viewRefusal u r
+  pub word : (r : List ℕ) (t : ℕ) → viewWord s r t ≡ viewWord u r t
+  pub run : (q : List ℕ) (room : ℕ) → runAnswer s q room ≡ runAnswer u q room
+  pub buffer : (q buffer : List ℕ) → runBuffer s q buffer ≡ runBuffer u q buffer
+  pub report : (q : List ℕ) (lent : ℕ) → reportAnswer s q lent ≡ reportAnswer u q lent
+  pub rows : (q : List ℕ) (list : List ℤ) → reportRows s q list ≡ reportRows u q list
+  pub passes : (q r : List ℕ) → Passes s q r ↔ Passes u q r
+
+-- A record u of version 1 is that of a page's unrolled model: its bytes meet the form rules, the plain model that they say is
+-- the page's unrolled, and the two records get the same answers.
+pub record IsUnrolled (s u : List ℕ) : Type 0 where
+  pub bytes : Bytes u
+  pub version : field u 4 1 ≡ 1
+  pub formed : MeetsForm u
+  pub unrolls : Unrolls (page s) (page u .plain)
+  pub same : SameAnswers s u
+
+abbrev pub PagesAreUnrolled : Type 0
+PagesAreUnrolled = (s : List ℕ) → Bytes s → MeetsForm s → IsUnrolled s (modelBytes (model s))
+
+-- "the single strict plan of a page is that of its unrolled model": demand 3 holds of both records, and the plan that the run
+-- writes for the one is what it writes for the other
+pub record SamePlan (s u q buffer : List ℕ) : Type 0 where
+  pub of-page : SingleStrictPlan s q buffer
+  pub of-unrolled : SingleStrictPlan u q buffer
+  pub same : (w : Written) → runAnswer s q (length buffer) ≡ accepted w
+      → (runAnswer u q (length buffer) ≡ accepted w) × (planWritten s q buffer w ≡ planWritten u q buffer w)
+
+abbrev pub OnePlan : Type 0
+OnePlan = (s q buffer : List ℕ) → Bytes s → Bytes q → MeetsForm s → PassesTests s q
+    → lengthNeeded (model s) ≤ length buffer → SamePlan s (modelBytes (model s)) q buffer
+
+-- ---- "Version 1 is one round without loops"
+
+-- two records say the same page: the same counts, the same rounds, and the same rows
+pub record SamePage (p q : Page) : Type 0 where
+  pub cores : p .plain .cores ≡ q .plain .cores
+  pub threads : p .plain .threads ≡ q .plain .threads
+  pub activities : p .plain .activities ≡ q .plain .activities
+  pub horizon : p .plain .horizon ≡ q .plain .horizon
+  pub rounds : p .rounds ≡ q .rounds
+  pub least-period : (j : ℕ) → j < p .plain .threads → p .plain .least-period j ≡ q .plain .least-period j
+  pub most-period : (j : ℕ) → j < p .plain .threads → p .plain .most-period j ≡ q .plain .most-period j
+  pub least-release : (j : ℕ) → j < p .plain .threads → p .plain .least-release j ≡ q .plain .least-release j
+  pub most-release : (j : ℕ) → j < p .plain .threads → p .plain .most-release j ≡ q .plain .most-release j
+  pub priority : (j : ℕ) → j < p .plain .threads → p .plain .priority j ≡ q .plain .priority j
+  pub thread : (a : ℕ) → a < p .plain .activities → p .plain .thread a ≡ q .plain .thread a
+  pub least-duration : (a : ℕ) → a < p .plain .activities → p .plain .least-duration a ≡ q .plain .least-duration a
+  pub most-duration : (a : ℕ) → a < p .plain .activities → p .plain .most-duration a ≡ q .plain .most-duration a
+  pub delay : (a : ℕ) → a < p .plain .activities → p .plain .delay a ≡ q .plain .delay a
+  pub temporal-mask : (a : ℕ) → a < p .plain .activities → p .plain .temporal-mask a ≡ q .plain .temporal-mask a
+  pub data-mask : (a : ℕ) → a < p .plain .activities → p .plain .data-mask a ≡ q .plain .data-mask a
+  pub loop : (a : ℕ) → a < p .plain .activities → p .loop a ≡ q .loop a
+
+-- records that pass the rules that name no row and say the same page, in one version or in two, get the same answers, refused
+-- by a row or not: so a version 2 record with i 1 and no loops answers as the version 1 record of the same page
+abbrev pub VersionsAgree : Type 0
+VersionsAgree = (s u : List ℕ) → AllHold (headRules s) → AllHold (headRules u) → SamePage (page s) (page u) → SameAnswers s u
+
+-- ---- "later models are longer"
+
+-- the longest pair of a model and a plan that is well-formed for it has 17,156 bytes, and a pair with a choice has 706: the
+-- programs read either whole
+pub record PairsFit (s : List ℕ) : Type 0 where
+  pub with-plan : (r : List ℕ) → WellFormed s r → length s + length r ≤ 17156
+  pub with-choice : (q : List ℕ) → PassesTests s q → length s + length q ≤ 706
+  pub read-whole : 17156 ≤ inputLimit
+
+abbrev pub AllPairsFit : Type 0
+AllPairsFit = (s : List ℕ) → MeetsForm s → PairsFit s

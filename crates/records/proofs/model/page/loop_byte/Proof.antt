@@ -1,0 +1,49 @@
+-- `model::page::loop_byte` meets its contract, version by version.
+-- Assumes nothing.
+use borrow.Author.Tests.{eq-eqb, ne-eqb}
+use Rattle.schedule.specs.Model.{page}
+use borrow.Author.Needs.{needs}
+use Rattle.records.proofs.model.page.loop_byte.Statement.{statement}
+use Rattle.records.proofs.model.page.loop_byte.Tie as tie
+
+version-requires : tie.Need-version-requires
+version-requires c κs = search needs
+
+byte-requires : tie.Need-byte-requires
+byte-requires c κs = search needs
+
+activity-at-requires : tie.Need-activity-at-requires
+activity-at-requires c κs = search needs
+
+add-byte : tie.Need-add-byte
+add-byte c = search needs
+
+byte-requires-2 : tie.Need-byte-requires-2
+byte-requires-2 c κs = search needs
+
+returns : tie.Need-returns
+unfolding page
+returns c = rw (← c .before .version .ensures, eq-eqb _ _ (c .if1 .taken))
+
+returns-2 : tie.Need-returns-2
+unfolding page
+returns-2 c =
+    let c3 = c .before .before .before in
+    rw (
+      ← c3 .before .version .ensures,
+      ← c .before .before .byte .ensures,
+      ← c .before .activity-at .ensures .0,
+      ne-eqb _ _ (c3 .if1 .left),
+    ) (c .byte2 .ensures)
+
+pub loop-byte-spec : {M : Type 1} → statement M
+loop-byte-spec =
+    tie.close
+    (tie.spec
+    version-requires
+    byte-requires
+    activity-at-requires
+    add-byte
+    byte-requires-2
+    returns
+    returns-2)

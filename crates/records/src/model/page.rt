@@ -1,0 +1,120 @@
+// A page as the model record's bytes say it: "cores c (1 byte, 1..8), threads n (1 byte, 1..8), activities m (1 byte, 1..32),
+// horizon H (2 bytes, 1..4096)", from version 2 on the rounds i (1 byte); "Then n thread rows of 10 bytes .. Then m activity
+// rows of 15 bytes", from version 2 on with a loop byte behind each. Of any bytes.
+use crate::model::ActivityRow;
+use crate::model::Sizes;
+use crate::model::Thread;
+use crate::model::ThreadRow;
+ghost use mathlib.Core.Path.{_≡_};
+ghost use Prim.Native.Nat.{_≤_};
+ghost use Rattle.schedule.specs.Fields.{field};
+ghost use Rattle.schedule.specs.Model.{page, modelLength, threadRow, activityRow};
+ghost use Rattle.records.specs.Rows.{sizesOf, threadRowOf, activityRowOf};
+
+// The version byte.
+fn version(s: &[u8]) -> u8
+    ensures { λ r. ⌜ r ≡ field (now (s .entry)) 4 1 ⌝ }
+{
+    fields::byte(s, 4)
+}
+
+// The counts of one round.
+pub(crate) fn counts(s: &[u8]) -> Sizes
+    ensures { λ r. ⌜ r ≡ sizesOf (page (now (s .entry)) .plain) ⌝ }
+{
+    Sizes {
+        cores: fields::byte(s, 5),
+        threads: fields::byte(s, 6),
+        activities: fields::byte(s, 7),
+        horizon: fields::be16(s, 8),
+    }
+}
+
+// How many rounds there are: "Version 1 is one round".
+pub(crate) fn rounds(s: &[u8]) -> u8
+    ensures { λ r. ⌜ r ≡ page (now (s .entry)) .rounds ⌝ }
+{
+    if version(s) == 1 {
+        1
+    } else {
+        fields::byte(s, 10)
+    }
+}
+
+// ---- where the rows stand
+
+// Thread row j.
+fn thread_at(version: u8, j: u8) -> usize
+    ensures { λ r. ⌜ r ≡ threadRow version j ⌝ }
+    ensures most { λ r. ⌜ r ≤ 2561 ⌝ }
+{
+    if version == 1 {
+        10 + 10 * (j as usize)
+    } else {
+        11 + 10 * (j as usize)
+    }
+}
+
+// Activity row a, behind the rows of that many threads.
+fn activity_at(version: u8, threads: u8, a: u8) -> usize
+    ensures { λ r. ⌜ r ≡ activityRow version threads a ⌝ }
+    ensures most { λ r. ⌜ r ≤ 6641 ⌝ }
+{
+    let first = thread_at(version, threads);
+    if version == 1 {
+        first + 15 * (a as usize)
+    } else {
+        first + 16 * (a as usize)
+    }
+}
+
+// "Length 10 + 10n + 15m", and 11 + 10n + 16m: where one more activity row would begin.
+pub(crate) fn length(s: &[u8], one: Sizes) -> u32
+    ensures { λ r. ⌜ r ≡ modelLength (field (now (s .entry)) 4 1) (one .threads) (one .activities) ⌝ }
+{
+    activity_at(version(s), one.threads, one.activities) as u32
+}
+
+// ---- the rows
+
+// Thread row j.
+pub(crate) fn thread_row(s: &[u8], j: u8) -> ThreadRow
+    ensures { λ r. ⌜ r ≡ threadRowOf (page (now (s .entry)) .plain) j ⌝ }
+{
+    let at = thread_at(version(s), j);
+    ThreadRow {
+        least_period: fields::be16(s, at),
+        most_period: fields::be16(s, at + 2),
+        least_release: fields::be16(s, at + 4),
+        most_release: fields::be16(s, at + 6),
+        priority: fields::be16(s, at + 8),
+    }
+}
+
+// Activity row a, without its loop byte.
+pub(crate) fn activity_row(s: &[u8], a: u8) -> ActivityRow
+    ensures { λ r. ⌜ r ≡ activityRowOf (page (now (s .entry)) .plain) a ⌝ }
+{
+    let at = activity_at(version(s), fields::byte(s, 6), a);
+    let owner = fields::byte(s, at);
+    ActivityRow {
+        thread: Thread(owner),
+        least_duration: fields::be16(s, at + 1),
+        most_duration: fields::be16(s, at + 3),
+        delay: fields::be16(s, at + 5),
+        temporal_mask: fields::be32(s, at + 7),
+        data_mask: fields::be32(s, at + 11),
+    }
+}
+
+// Its loop byte: version 1 has none.
+pub(crate) fn loop_byte(s: &[u8], a: u8) -> u8
+    ensures { λ r. ⌜ r ≡ page (now (s .entry)) .loop a ⌝ }
+{
+    let version = version(s);
+    if version == 1 {
+        unroll::NO_LOOP
+    } else {
+        fields::byte(s, activity_at(version, fields::byte(s, 6), a) + 15)
+    }
+}
