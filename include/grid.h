@@ -28,7 +28,9 @@ typedef struct GridAnswer {
     uint32_t length;
 } GridAnswer;
 
-/* The plain check of a plan: refusals 1 to 12, 14, and 21 to 29. No call answers 24, a number that is out of use. */
+/* The plain check of a plan: refusals 1 to 7 and 51 to 53 of the model, 8 to 12 and 14 of the plan, and 21 to 29. No call
+ * answers 24, a number that is out of use. A model may have several rounds; threads and activities in the second record
+ * and in the answers then count in all rounds together. */
 GridAnswer grid_check_plain(const uint8_t *model, size_t model_length,
                             const uint8_t *plan, size_t plan_length);
 
@@ -36,17 +38,17 @@ GridAnswer grid_check_plain(const uint8_t *model, size_t model_length,
 GridAnswer grid_check_strict(const uint8_t *model, size_t model_length,
                              const uint8_t *plan, size_t plan_length);
 
-/* The run of a choice: refusals 1 to 13 and 41 change no byte of `out`, 42 and 43 set as many of its first bytes to 0
- * as the plan would have taken, and a success writes the plan there. Bytes beyond the plan's length never change. */
+/* The run of a choice: refusals 1 to 13, 51 to 53 and 41 change no byte of `out`, 42 and 43 set as many of its first bytes
+ * to 0 as the plan would have taken, and a success writes the plan there. Bytes beyond the plan's length never change. */
 GridAnswer grid_run(const uint8_t *model, size_t model_length,
                     const uint8_t *choice, size_t choice_length,
                     uint8_t *out, size_t out_length);
 
 /* The lateness of each activity in the run of a choice. The answer is that of grid_run with room enough, the plan's length
- * included, but 50 for fewer than 32 rows, however few activities there are; it is tried after 1 to 13 and before 42 and
+ * included, but 50 for fewer than 32 rows, however few activities there are; it is tried after the records and before 42 and
  * 43. A success and 43 set row a to the deadline of activity a, its thread's release + period, less its end, negative when
- * late and 0 on the dot, or to INT32_MIN where its thread has no period. Refusals 1 to 13, 42 and 50 change no row, and rows
- * beyond the last activity never change. */
+ * late and 0 on the dot, or to INT32_MIN where its thread has no period. Refusals 1 to 13, 51 to 53, 42 and 50 change no
+ * row, and rows beyond the last activity never change. */
 GridAnswer grid_lateness(const uint8_t *model, size_t model_length,
                          const uint8_t *choice, size_t choice_length,
                          int32_t *rows, size_t rows_length);

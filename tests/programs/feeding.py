@@ -41,15 +41,17 @@ def run_refused(number, a=0, b=0):
     return b"run refused %d %d %d\n" % (number, a, b)
 
 
-def largest_model(ticks, priorities=bytes(8), periods=bytes(8)):
-    """The longest model, 570 bytes: 8 cores, 8 threads, 32 activities of so many ticks, H 4096. No predecessors."""
+def largest_model(ticks, priorities=bytes(8), periods=bytes(8), version=1):
+    """The longest model of a version, 570 or 603 bytes: 8 cores, 8 threads, 32 activities of so many ticks, H 4096. No
+    predecessors, and in version 2 one round without loops."""
+    length, rounds, loop = [(570, b"", b""), (603, b"\x01", b"\xff")][version - 1]
     threads = (be(period, 2) + be(period, 2) + bytes(4) + be(p, 2) for p, period in zip(priorities, periods))
-    model = be(570, 4) + bytes([1, 8, 8, 32]) + be(4096, 2) + b"".join(threads)
-    return model + b"".join(bytes([a % 8]) + be(ticks, 2) + be(ticks, 2) + bytes(10) for a in range(32))
+    model = be(length, 4) + bytes([version, 8, 8, 32]) + be(4096, 2) + rounds + b"".join(threads)
+    return model + b"".join(bytes([a % 8]) + be(ticks, 2) + be(ticks, 2) + bytes(10) + loop for a in range(32))
 
 
 def largest_pair(ticks, priorities=bytes(8), periods=bytes(8)):
-    """The longest model and its choice, 570 and 103 bytes. All releases are 0."""
+    """The longest model of version 1 and its choice, 570 and 103 bytes. All releases are 0."""
     choice = be(103, 4) + bytes([1, 8, 32]) + b"".join(bytes(2) + be(period, 2) for period in periods)
     return largest_model(ticks, priorities, periods) + choice + 32 * be(ticks, 2)
 

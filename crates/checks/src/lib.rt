@@ -107,7 +107,7 @@ fn check(s: &[u8], r: &[u8], strict: bool) -> Verdict
     Verdict::Accepted(tables::figures::figures(s, r))
 }
 
-// "The plain check": rules 1 to 14 of the two records, then 21 to 29.
+// "The plain check": the form rules of the two records, then 21 to 29.
 pub fn check_plain(model: &[u8], plan: &[u8]) -> Verdict
     ensures { λ x. ⌜ verdictNumbers x ≡ plainVerdict (now (model .entry)) (now (plan .entry)) ⌝ }
 {

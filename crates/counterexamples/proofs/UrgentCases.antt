@@ -46,7 +46,7 @@ silent = record { given = false; kept = false }
 abbrev fails : Comes
 fails = record { given = true; kept = false }
 
--- What the machine makes of a choice: its words, and the run's verdict. None is of 1 to 7: every model meets its form rules.
+-- What the machine makes of a choice: its words, and the run's verdict. None is of the model: each meets its form rules.
 pub record Ran : Type 0 where
   pub words : Saying
   pub verdict : Saying

@@ -185,11 +185,11 @@ plain-then-strict s r x e =
     strict-refused s r x .1 (some-iff (strictChecks s r) x (strictChecks-sound s r) .0
     (ap firstBreak (strict-extends s r) ∙ append-some (plainChecks s r) _ x found))
 
--- The form. A model passes its tests exactly where rules 1 to 7 hold.
+-- The form. A model passes its tests exactly where its form rules hold.
 pub model-formed : (s : List ℕ) → (firstBreak (modelForm s) ≡ none) ↔ AllHold (modelForm s)
 model-formed s = none-iff (modelForm s) (modelForm-sound s)
 
--- It is refused exactly with the first break of rules 1 to 7.
+-- It is refused exactly with the first break of them.
 pub model-refused : (s : List ℕ) (x : Refusal) → (firstBreak (modelForm s) ≡ some x) ↔ FirstBroken (modelForm s) x
 model-refused s x = some-iff (modelForm s) x (modelForm-sound s)
 
@@ -212,7 +212,7 @@ pub plan-refused : (m : Model) (r : List ℕ) (x : Refusal)
 plan-refused m r x = some-iff (planForm m r) x (planForm-sound m r)
 
 -- The run, of any two byte strings and a buffer with any room.
--- Its input rules, 1 to 13, all hold, or there is a first break.
+-- Its input rules, of both records, all hold, or there is a first break.
 pub run-input : (s q : List ℕ) → AllHold (runChecks s q) ⊎ ((x : Refusal) × FirstBroken (runChecks s q) x)
 run-input s q = hold-or-broken (runChecks s q) (runChecks-sound s q)
 

@@ -15,12 +15,12 @@ use Rattle.schedule.specs.Rounds.{noLoop, numberIn, movedRelease, movedMask, wi
 use Rattle.schedule.specs.Model.{Model, Page, page, unrolled, model, modelLength, threadRow, activityRow}
 use Rattle.laws.proofs.FieldLaws.{length-bytes, bytes-bytes, length-chain, bytes-append, bytes-chain}
 use Rattle.laws.proofs.Parts.{Stands, stands-whole, stands-first, stands-second, stands-field, stands-next, stands-row}
-use Rattle.laws.proofs.RoundLaws.{row-of}
+use Rattle.laws.proofs.RoundLaws.{row-of, number-first, release-first, mask-first}
 use Rattle.schedule.specs.ModelBytes.{threadBytes, activityBytes, modelBytes}
 use Rattle.demands.specs.Rounds.{SamePage}
 use Rattle.demands.proofs.SamePage.{rowsOf, model-ext, models-same}
 
--- every part of a model fits the bytes that it is written in, and there is nothing past its counts
+-- every part of a model fits the bytes that it is written in
 pub record Fits (m : Model) : Type 0 where
   pub cores : m .cores < 256
   pub threads : m .threads < 256
@@ -203,17 +203,6 @@ one-round n f g fits each past j =
           let e : 1 * n % 256 ≡ n = mod-eq-of-lt (omega arith) ∙ one-mul n in
           rw (e, le-ltb j n (omega arith)) (sym (past j (omega arith)))
     ]
-
--- in round 0 nothing is moved
-number-first : (n j : ℕ) → j < 256 → numberIn 0 n j ≡ j
-number-first n j fits = rw (zero-mul n, zero-add j) (mod-eq-of-lt fits)
-
-release-first : (period release : ℕ) → release < 65536 → movedRelease 0 period release ≡ release
-release-first period release fits =
-    rw (zero-mul period) (ap (λ (x : ℕ). x % 65536) (add-zero release) ∙ mod-eq-of-lt fits)
-
-mask-first : (m mask : ℕ) → mask < 2 ^ 32 → movedMask 0 m mask ≡ mask
-mask-first m mask fits = rw (zero-mul m) (ap (λ (x : ℕ). x % 2 ^ 32) (mul-one mask) ∙ mod-eq-of-lt fits)
 
 -- a model as a page of one round without loops
 abbrev pub single : Model → Page

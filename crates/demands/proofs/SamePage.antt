@@ -8,12 +8,12 @@ use mathlib.Core.List.{List, _∷_}
 use mathlib.Core.Option.{Option, some, none}
 use mathlib.Core.Path.{_≡_, refl, sym, ap₂, fun-ext, _∙_}
 use borrow.Author.Tests.{lt-ltb, le-ltb}
-use Rattle.schedule.specs.Rule.{Rule, Refusal, break, firstBreak, AllHold}
+use Rattle.schedule.specs.Rule.{Rule, Refusal, break, firstBreak}
 use Rattle.schedule.specs.Rounds.{inAll, numberIn, movedRelease, movedMask, withLoop, below}
-use Rattle.schedule.specs.Model.{Model, Page, page, unrolled, model, headRules, rowRules, modelForm}
-use Rattle.schedule.specs.Model.{threadRule, periodRule, activityRule, loopRule, maskRule}
+use Rattle.schedule.specs.Model.{Model, Page, page, unrolled, model, rowRules, modelForm}
+use Rattle.schedule.specs.Model.{limitsRule, roundsRule, threadRule, periodRule, activityRule, loopRule, maskRule}
 use Rattle.schedule.specs.Opened.{form-rules}
-use Rattle.laws.proofs.FirstBreak.{break-same, append-none, none-iff}
+use Rattle.laws.proofs.FirstBreak.{break-same, break-none}
 use Rattle.laws.proofs.Sound.{headRules-sound}
 use Rattle.laws.proofs.RoundLaws.{placed}
 use Rattle.demands.specs.Rounds.{SamePage, VersionsAgree}
@@ -130,15 +130,22 @@ module _ (p q : Page) (same : SamePage p q) where
       (λ k x. movedMask k (q .plain .activities) (q .plain .data-mask x))
       (same .rounds) (same .activities) (λ k x l. ap₂ (movedMask k) (same .activities) (same .data-mask x l)))
 
--- the form rules of a record that passes those that name no row break as its rows do
-pub form-break : (s : List ℕ) → AllHold (headRules s) → firstBreak (modelForm s) ≡ firstBreak (rowRules (page s))
-unfolding modelForm
-form-break s h = append-none (headRules s) (rowRules (page s)) (none-iff (headRules s) (headRules-sound s) .1 h)
-
--- the paper's two versions of one page
+-- the paper's two versions of one page: 1, 2 and 4 hold of both records, and the other rules break alike
 pub versions-agree : VersionsAgree
-unfolding model
+unfolding model modelForm form-rules
 versions-agree s u hs hu same =
+    let ss = headRules-sound s in
+    let us = headRules-sound u in
     same-answers s u
-    (form-break s hs ∙ rows-break (page s) (page u) same ∙ sym (form-break u hu))
+    (cons-same _ _ _ _ (break-none _ (ss .0) .1 (hs .0) ∙ sym (break-none _ (us .0) .1 (hu .0)))
+    (cons-same _ _ _ _ (break-none _ (ss .1 .0) .1 (hs .1 .0) ∙ sym (break-none _ (us .1 .0) .1 (hu .1 .0)))
+    (cons-same _ _ _ _
+    (break-same (limitsRule (page s .plain)) (limitsRule (page u .plain)) refl refl refl
+    (λ _ _ _ _. rw (same .cores, same .threads, same .activities, same .horizon) refl))
+    (cons-same _ _ _ _
+    (break-none _ (ss .1 .1 .1 .0) .1 (hs .1 .1 .0) ∙ sym (break-none _ (us .1 .1 .1 .0) .1 (hu .1 .1 .0)))
+    (cons-same _ _ _ _
+    (break-same (roundsRule (page s)) (roundsRule (page u)) refl refl refl
+    (λ _ _ _ _. rw (same .rounds, same .threads, same .activities) refl))
+    (rows-break (page s) (page u) same))))))
     (models-same (page s) (page u) same)

@@ -2,14 +2,15 @@
 -- page answers as the version 1 record of its unrolled model does.
 -- Assumes nothing.
 use Prim.Native.Nat.{ℕ, _+_, _≤_, _<_}
-use mathlib.Core.List.{List}
+use mathlib.Core.List.{List, [], _∷_}
 use mathlib.Core.Logic.{_↔_}
 use mathlib.Core.Path.{_≡_}
 use lib.IntN.{ℤ}
 use lib.ListN.{length}
 use Rattle.schedule.specs.Fields.{field, Bytes}
 use Rattle.schedule.specs.Rule.{AllHold}
-use Rattle.schedule.specs.Model.{Page, page, model, headRules}
+use Rattle.schedule.specs.Records.{lengthRule, versionRule, formulaRule}
+use Rattle.schedule.specs.Model.{Page, page, model, modelLength, newestModel}
 use Rattle.schedule.specs.Unrolls.{Unrolls}
 use Rattle.schedule.specs.ModelBytes.{modelBytes}
 use Rattle.schedule.specs.Answers.{accepted, plainVerdict, strictVerdict, Written, lengthNeeded, runAnswer, runBuffer}
@@ -84,15 +85,23 @@ pub record SamePage (p q : Page) : Type 0 where
   pub data-mask : (a : ℕ) → a < p .plain .activities → p .plain .data-mask a ≡ q .plain .data-mask a
   pub loop : (a : ℕ) → a < p .plain .activities → p .loop a ≡ q .loop a
 
--- records that pass the rules that name no row and say the same page, in one version or in two, get the same answers, refused
--- by a row or not: so a version 2 record with i 1 and no loops answers as the version 1 record of the same page
+-- rules 1, 2 and 4, which speak of a record's own bytes and not of its page
+abbrev pub Sized : List ℕ → Type 0
+Sized s = AllHold (
+    lengthRule 1 10 s
+    ∷ versionRule 2 newestModel s
+    ∷ formulaRule 4 (modelLength (field s 4 1) (page s .plain .threads) (page s .plain .activities)) s
+    ∷ [])
+
+-- records that pass these and say the same page, in one version or in two, get the same answers, refused or not: so a version
+-- 2 record with i 1 and no loops answers as the version 1 record of the same page
 abbrev pub VersionsAgree : Type 0
-VersionsAgree = (s u : List ℕ) → AllHold (headRules s) → AllHold (headRules u) → SamePage (page s) (page u) → SameAnswers s u
+VersionsAgree = (s u : List ℕ) → Sized s → Sized u → SamePage (page s) (page u) → SameAnswers s u
 
 -- ---- "later models are longer"
 
--- the longest pair of a model and a plan that is well-formed for it has 17,156 bytes, and a pair with a choice has 706: the
--- programs read either whole
+-- a model and a plan that is well-formed for it have at most 17,156 bytes together, a model and a choice at most 706: the
+-- programs read either pair whole
 pub record PairsFit (s : List ℕ) : Type 0 where
   pub with-plan : (r : List ℕ) → WellFormed s r → length s + length r ≤ 17156
   pub with-choice : (q : List ℕ) → PassesTests s q → length s + length q ≤ 706

@@ -1,7 +1,7 @@
 -- A field built byte by byte, and its bounds.
 -- Assumes nothing.
 use Prim.Native.Nat.{ℕ, zero, suc, _+_, _-_, _*_, _%_, _^_, _≤_, _<_}
-use native.Mathlib.Nat.{add-zero}
+use native.Mathlib.Nat.{add-zero, add-assoc}
 use native.Mathlib.Numerals.{add-one}
 use native.Mathlib.Omega.{arith}
 use mathlib.Core.List.{List}
@@ -48,7 +48,20 @@ field-short s h at (suc (suc zero)) l = omega (arith, field-lt s h at 2)
 field-short s h at (suc (suc (suc zero))) l = field-lt s h at 3
 field-short s h at (suc (suc (suc (suc k)))) l = absurd (omega arith)
 
--- four bytes, put together
+-- two bytes, put together
+pub field-two : (s : List ℕ) (at : ℕ) → getD s at 0 * 256 + getD s (at + 1) 0 ≡ field s at 2
+field-two s at = omega (arith, field-one s at, field-next s at 1)
+
+-- the same of bytes that stand so far behind a position
+pub field-two-at : (s : List ℕ) (at i : ℕ) → getD s (at + i) 0 * 256 + getD s (at + (i + 1)) 0 ≡ field s (at + i) 2
+field-two-at s at i = rw (← add-assoc at i 1) (field-two s (at + i))
+
+-- and four
 pub field-four : (s : List ℕ) (at : ℕ)
     → ((getD s at 0 * 256 + getD s (at + 1) 0) * 256 + getD s (at + 2) 0) * 256 + getD s (at + 3) 0 ≡ field s at 4
 field-four s at = omega (arith, field-one s at, field-next s at 1, field-next s at 2, field-next s at 3)
+
+pub field-four-at : (s : List ℕ) (at i : ℕ)
+    → ((getD s (at + i) 0 * 256 + getD s (at + (i + 1)) 0) * 256 + getD s (at + (i + 2)) 0) * 256 + getD s (at + (i + 3)) 0
+    ≡ field s (at + i) 4
+field-four-at s at i = rw (← add-assoc at i 1, ← add-assoc at i 2, ← add-assoc at i 3) (field-four s (at + i))

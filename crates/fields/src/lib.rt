@@ -44,8 +44,15 @@ fn gather(s: &[u8], at: usize, k: usize) -> u32
     v
 }
 
+// Two bytes as one number.
+pub fn paired(a: u8, b: u8) -> u16
+    ensures { λ r. ⌜ r ≡ a * 256 + b ⌝ }
+{
+    shift_in(a as u32, b) as u16
+}
+
 // Four bytes as one number.
-fn joined(a: u8, b: u8, c: u8, d: u8) -> u32
+pub fn joined(a: u8, b: u8, c: u8, d: u8) -> u32
     ensures { λ r. ⌜ r ≡ ((a * 256 + b) * 256 + c) * 256 + d ⌝ }
 {
     shift_in(shift_in(shift_in(a as u32, b), c), d)
@@ -57,10 +64,15 @@ pub fn byte(s: &[u8], at: usize) -> u8
     byte_after(s, at, 0)
 }
 
+// Read at once where both bytes are there.
 pub fn be16(s: &[u8], at: usize) -> u16
     ensures { λ r. ⌜ r ≡ field (now (s .entry)) at 2 ⌝ }
 {
-    gather(s, at, 2) as u16
+    if 2 <= room(s.len(), at) {
+        paired(s[at], s[at + 1])
+    } else {
+        gather(s, at, 2) as u16
+    }
 }
 
 // Read at once where all four bytes are there.

@@ -2,7 +2,7 @@
 -- Assumes nothing.
 use Prim.Native.Nat.{ℕ, zero, suc, _+_, _-_, _*_, _/_, _%_, _^_, _≤_, _<_}
 use native.Mathlib.Decide.{decLt, ℕ-discrete}
-use native.Mathlib.Nat.{add-zero, mul-zero, mul-assoc, mul-left-comm, mod-lt, mod-eq-of-lt, div-add-mod', div-lt-iff-lt-mul}
+use native.Mathlib.Nat.{zero-add, add-zero, zero-mul, mul-zero, mul-one, mul-assoc, mul-left-comm, mod-lt, mod-eq-of-lt, div-add-mod', div-lt-iff-lt-mul}
 use native.Mathlib.Omega.{arith}
 use mathlib.Core.Bool.{Bool, true, false, _&&_, _||_, not}
 use mathlib.Core.Path.{_≡_, refl, sym, ap, _∙_}
@@ -11,7 +11,7 @@ use lib.Dec.{eqb, leb}
 use lib.Pow.{pow-add, shl-shr, shr-shr, low}
 use borrow.Author.Tests.{lt-ltb, le-leb, lt-leb, eq-eqb, ne-eqb}
 use Rattle.schedule.specs.Bounded.{bit, withBit}
-use Rattle.schedule.specs.Rounds.{noLoop, inAll, movedMask, withLoop, below}
+use Rattle.schedule.specs.Rounds.{noLoop, inAll, numberIn, movedRelease, movedMask, withLoop, below}
 use Rattle.laws.proofs.Words.{bit-low}
 use Rattle.laws.proofs.WordLaws.{bit-or, bit-pow, with-or}
 
@@ -42,9 +42,20 @@ row-of i n k j f fits round place =
       digits-mod k {r = j} place,
     ) refl
 
+-- in round 0 nothing is moved
+pub number-first : (n j : ℕ) → j < 256 → numberIn 0 n j ≡ j
+number-first n j fits = rw (zero-mul n, zero-add j) (mod-eq-of-lt fits)
+
+pub release-first : (period release : ℕ) → release < 65536 → movedRelease 0 period release ≡ release
+release-first period release fits =
+    rw (zero-mul period) (ap (λ (x : ℕ). x % 65536) (add-zero release) ∙ mod-eq-of-lt fits)
+
+pub mask-first : (m mask : ℕ) → mask < 2 ^ 32 → movedMask 0 m mask ≡ mask
+mask-first m mask fits = rw (zero-mul m) (ap (λ (x : ℕ). x % 2 ^ 32) (mul-one mask) ∙ mod-eq-of-lt fits)
+
 -- ---- masks
 
-pub bit-with : (w b x : ℕ) → b < 32 → bit (withBit w b) x ≡ (bit w x || eqb x b)
+bit-with : (w b x : ℕ) → b < 32 → bit (withBit w b) x ≡ (bit w x || eqb x b)
 bit-with w b x h =
     ap (λ (v : ℕ). bit v x) (with-or w b h)
     ∙ bit-or w (2 ^ b) x

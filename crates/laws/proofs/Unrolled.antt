@@ -18,7 +18,7 @@ use Rattle.schedule.specs.Rule.{AllHold}
 use Rattle.schedule.specs.Records.{Within}
 use Rattle.schedule.specs.Rounds.{noLoop, movedMask, withLoop, movedRelease, numberIn}
 use Rattle.schedule.specs.Model.{Page, page, unrolled, modelForm, temporally, byData}
-use Rattle.schedule.specs.Model.{limitsRule, threadRule, activityRule, maskRule}
+use Rattle.schedule.specs.Model.{limitsRule, roundsRule, threadRule, periodRule, activityRule, loopRule, maskRule}
 use Rattle.schedule.specs.Unrolls.{ThreadMoved, ActivityMoved, Unrolls}
 use Rattle.schedule.specs.Numbers.{formNumber}
 use Rattle.schedule.specs.Opened.{form-rules}
@@ -29,26 +29,19 @@ use Rattle.laws.proofs.RoundLaws.{placed, row-of, bit-moved, bit-loop, 
 -- what the form rules say of a page
 pub record Formal (p : Page) : Type 0 where
   pub limits : limitsRule (p .plain) .Holds 0 0
-  pub rounds : Within 1 4 (p .rounds)
-  pub threads : p .rounds * p .plain .threads ≤ 8
-  pub activities : p .rounds * p .plain .activities ≤ 32
+  pub rounds : roundsRule p .Holds 0 0
   pub ranges : (j : ℕ) → j < p .plain .threads → threadRule (p .plain) .Holds j 0
-  pub periods : (j : ℕ) → j < p .plain .threads → 1 < p .rounds
-      → (p .plain .least-period j ≡ p .plain .most-period j)
-      × (p .plain .most-release j + (p .rounds - 1) * p .plain .least-period j ≤ 65535)
+  pub periods : (j : ℕ) → j < p .plain .threads → periodRule p .Holds j 0
   pub owners : (a : ℕ) → a < p .plain .activities → activityRule (p .plain) .Holds a 0
-  pub loops : (a : ℕ) → a < p .plain .activities → ¬ (p .loop a ≡ noLoop) → p .loop a < p .plain .activities
+  pub loops : (a : ℕ) → a < p .plain .activities → loopRule p .Holds a 0
   pub masks : (a : ℕ) → a < p .plain .activities → maskRule (p .plain) .Holds a 0
 
 pub page-says : (s : List ℕ) → AllHold (modelForm s) → Formal (page s)
 unfolding modelForm form-rules
 page-says s h =
-    let rounds = says (formNumber FormRefusal.Rounds) (modelForm s) h 0 0 (omega arith) (omega arith) in
     record {
       limits = says (formNumber FormRefusal.ModelLimits) (modelForm s) h 0 0 (omega arith) (omega arith);
-      rounds = rounds .0 .0;
-      threads = rounds .0 .1;
-      activities = rounds .1;
+      rounds = says (formNumber FormRefusal.Rounds) (modelForm s) h 0 0 (omega arith) (omega arith);
       ranges = λ j l. says (formNumber (FormRefusal.ModelRow RowRule.Thread)) (modelForm s) h j 0 l (omega arith);
       periods = λ j l. says (formNumber (FormRefusal.ModelRow RowRule.Period)) (modelForm s) h j 0 l (omega arith);
       owners = λ a l. says (formNumber (FormRefusal.ModelRow RowRule.Activity)) (modelForm s) h a 0 l (omega arith);
@@ -81,26 +74,40 @@ module _ (p : Page) (h : Formal p) where
   abbrev m : ℕ
   m = p .plain .activities
 
-  pub threads-all : unrolled p .threads ≡ i * n
-  unfolding unrolled
-  threads-all = mod-eq-of-lt (omega (arith, h .threads))
+  -- 51, by its parts
+  some-rounds : Within 1 4 i
+  unfolding roundsRule
+  some-rounds = h .rounds .0 .0
 
-  pub activities-all : unrolled p .activities ≡ i * m
+  few-threads : i * n ≤ 8
+  unfolding roundsRule
+  few-threads = h .rounds .0 .1
+
+  few-activities : i * m ≤ 32
+  unfolding roundsRule
+  few-activities = h .rounds .1
+
+  threads-all : unrolled p .threads ≡ i * n
   unfolding unrolled
-  activities-all = mod-eq-of-lt (omega (arith, h .activities))
+  threads-all = mod-eq-of-lt (omega (arith, few-threads))
+
+  activities-all : unrolled p .activities ≡ i * m
+  unfolding unrolled
+  activities-all = mod-eq-of-lt (omega (arith, few-activities))
 
   -- both fit a byte
   threads-fit : i * n < 256
-  threads-fit = omega (arith, h .threads)
+  threads-fit = omega (arith, few-threads)
 
   activities-fit : i * m < 256
-  activities-fit = omega (arith, h .activities)
+  activities-fit = omega (arith, few-activities)
 
   -- ---- threads
 
   -- a release of round k, moved by the period, is a release still
   release-fits : (k j release : ℕ) → k < i → j < n → release ≤ p .plain .most-release j → release < 65536
       → release + k * p .plain .least-period j < 65536
+  unfolding periodRule
   release-fits k j release round place less fits =
       elim (decLt 1 i) [
         | yes several ↦
@@ -115,6 +122,7 @@ module _ (p : Page) (h : Formal p) where
   -- and any period of the range moves it so far: there is one only, or none is added
   same-move : (k j period : ℕ) → k < i → j < n → Within (p .plain .least-period j) (p .plain .most-period j) period
       → k * p .plain .least-period j ≡ k * period
+  unfolding periodRule
   same-move k j period round place range =
       elim (decLt 1 i) [
         | yes several ↦
@@ -125,7 +133,7 @@ module _ (p : Page) (h : Formal p) where
             rw first (zero-mul (p .plain .least-period j) ∙ sym (zero-mul period))
       ]
 
-  pub thread-moved : (k j : ℕ) → k < i → j < n → p .plain .most-release j < 65536
+  thread-moved : (k j : ℕ) → k < i → j < n → p .plain .most-release j < 65536
       → ThreadMoved p (unrolled p) k j (k * n + j)
   unfolding unrolled threadRule
   thread-moved k j round place fits =
@@ -173,12 +181,12 @@ module _ (p : Page) (h : Formal p) where
   temporal-bit : (k a x : ℕ) → k < i → a < m → x < 32
       → temporally (unrolled p) x (k * m + a)
       ≡ (movedBit k (p .plain .temporal-mask a) x || loopBit k a x)
-  unfolding unrolled
+  unfolding loopRule unrolled
   temporal-bit k a x round place less =
       ap (λ (w : ℕ). bit w x)
       (row-of i m k a (λ r y. withLoop r m (p .loop y) (movedMask r m (p .plain .temporal-mask y))) activities-fit round place)
       ∙ bit-loop k m (p .loop a) _ x
-      (λ later loops. loop-lt i m k (p .loop a) (h .activities) round later (h .loops a place loops))
+      (λ later loops. loop-lt i m k (p .loop a) (few-activities) round later (h .loops a place loops))
       ∙ ap (λ (t : Bool). t || loopBit k a x)
       (bit-moved k m (p .plain .temporal-mask a) x less)
 
@@ -198,7 +206,7 @@ module _ (p : Page) (h : Formal p) where
             | yes before ↦ absurd (omega (arith, reached, mul-le-mul-right m before, suc-mul l m))
             | no unless ↦ elim (decLt k l) [
               | yes behind ↦
-                  absurd (clear (l * m + b - k * m) (omega (arith, h .activities, at))
+                  absurd (clear (l * m + b - k * m) (omega (arith, few-activities, at))
                   (omega (arith, mul-le-mul-right m behind, suc-mul k m)) set)
               | no nor ↦
                   let same : l ≡ k = omega arith in
@@ -216,7 +224,7 @@ module _ (p : Page) (h : Formal p) where
   -- the loop bit stands at row q of the round before
   loop-round : (k a l b : ℕ) → a < m → b < m
       → T (loopBit k a (l * m + b)) ↔ ((suc l ≡ k) × (p .loop a ≡ b))
-  unfolding limitsRule
+  unfolding loopRule limitsRule
   loop-round k a l b place below = (there, back)
     where
       here : Bool
@@ -249,7 +257,7 @@ module _ (p : Page) (h : Formal p) where
 
   -- a row's number among all is below 32
   row-below : (l b : ℕ) → l < i → b < m → l * m + b < 32
-  row-below l b round below = omega (arith, h .activities, digits-lt {q = l} {m = i} {r = b} {c = m} round below)
+  row-below l b round below = omega (arith, few-activities, digits-lt {q = l} {m = i} {r = b} {c = m} round below)
 
   pub activity-moved : (k a : ℕ) → k < i → a < m → ActivityMoved p (unrolled p) k a (k * m + a)
   unfolding unrolled maskRule
@@ -284,13 +292,13 @@ module _ (p : Page) (h : Formal p) where
   -- ---- the rules of a plain model
 
   -- what holds of each row of each round holds of each thread, or activity, of all
-  pub every-thread : (P : ℕ → Type 0) → ((k j : ℕ) → k < i → j < n → P (k * n + j))
+  every-thread : (P : ℕ → Type 0) → ((k j : ℕ) → k < i → j < n → P (k * n + j))
       → (x : ℕ) → x < unrolled p .threads → P x
   every-thread P each x l =
       let at = placed i n x (rw (← threads-all) l) in
       subst P (at .whole) (each (x / n) (x % n) (at .round) (at .place))
 
-  pub every-activity : (P : ℕ → Type 0) → ((k a : ℕ) → k < i → a < m → P (k * m + a))
+  every-activity : (P : ℕ → Type 0) → ((k a : ℕ) → k < i → a < m → P (k * m + a))
       → (x : ℕ) → x < unrolled p .activities → P x
   every-activity P each x l =
       let at = placed i m x (rw (← activities-all) l) in
@@ -299,10 +307,10 @@ module _ (p : Page) (h : Formal p) where
   pub limits-kept : limitsRule (unrolled p) .Holds 0 0
   unfolding limitsRule unrolled
   limits-kept =
-      let threads = mul-pos {m = i} {n = n} (omega (arith, h .rounds)) (omega (arith, h .limits)) in
-      let activities = mul-pos {m = i} {n = m} (omega (arith, h .rounds)) (omega (arith, h .limits)) in
+      let threads = mul-pos {m = i} {n = n} (omega (arith, some-rounds)) (omega (arith, h .limits)) in
+      let activities = mul-pos {m = i} {n = m} (omega (arith, some-rounds)) (omega (arith, h .limits)) in
       rw (mod-eq-of-lt threads-fit, mod-eq-of-lt activities-fit)
-      (((h .limits .0 .0, (threads, h .threads)), ((activities, h .activities), h .limits .1 .1)))
+      (((h .limits .0 .0, (threads, few-threads)), ((activities, few-activities), h .limits .1 .1)))
 
   pub ranges-kept : ((j : ℕ) → j < n → p .plain .most-release j < 65536)
       → (x : ℕ) → x < unrolled p .threads → threadRule (unrolled p) .Holds x 0
@@ -329,7 +337,7 @@ module _ (p : Page) (h : Formal p) where
 
   -- no moved bit, and no loop's, is at the row's own number or above
   pub masks-kept : (x : ℕ) → x < unrolled p .activities → maskRule (unrolled p) .Holds x 0
-  unfolding maskRule
+  unfolding loopRule maskRule
   masks-kept =
       every-activity (λ x. maskRule (unrolled p) .Holds x 0)
       (λ k a round place x less above. (

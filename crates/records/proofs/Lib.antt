@@ -1,5 +1,6 @@
 pub mod Masks
 pub mod Reading
+pub mod RowFields
 pub mod RowTests
 pub mod UnrolledRows
 pub mod RowOrder

@@ -3,12 +3,13 @@
 use Prim.Native.Nat.{ℕ}
 use mathlib.Core.Bool.{Bool, _&&_}
 use mathlib.Core.List.{List}
-use mathlib.Core.Path.{_≡_, sym, ap, ap₂, _∙_}
+use mathlib.Core.Path.{_≡_, refl, sym, ap, ap₂, _∙_}
 use Rattle.schedule.specs.Answers.{Answer}
 use Rattle.schedule.specs.Records.{within}
 use Rattle.schedule.specs.Model.{Model, Page, threadRule, periodRule, activityRule, loopRule, maskRule}
 use Rattle.schedule.specs.Choice.{Choice, durationRule, rangeRule}
-use Rattle.schedule.specs.Plan.{Plan, wordRule}
+use Rattle.schedule.specs.Plan.{plan, planGrid, wordIn, wordRule}
+use Rattle.laws.proofs.PlanBytes.{word-read}
 use Rattle.records.specs.declared.rows.Row.{Row}
 use Rattle.records.specs.declared.model.ThreadRow.{ThreadRow}
 use Rattle.records.specs.declared.model.ActivityRow.{ActivityRow}
@@ -79,9 +80,11 @@ duration-answered m q a o t range chosen e same holds said =
     (holds ∙ ap₂ (λ (row : ActivityRow). within (row .«least_duration») (row .«most_duration»)) e same)
     (ap Row.Duration same)
 
-pub word-answered : (m : Model) (p : Plan) (t : ℕ) (o : Answer Row) (clear : Bool) (word n : ℕ) → word ≡ p .word t
-    → n ≡ m .activities → clear ≡ noneFrom word n → o ≡ answerAt clear (Row.Word word) 14 t
-    → o ≡ rowAnswer (wordRule m p) t (Row.Word (p .word t))
+-- a word of the plan's grid, where there are n activities
+pub word-answered : (m : Model) (r grid : List ℕ) (t n : ℕ) (o : Answer Row) → grid ≡ planGrid r → n ≡ m .activities
+    → o ≡ answerAt (noneFrom (wordIn grid t) n) (Row.Word (wordIn grid t)) 14 t
+    → o ≡ rowAnswer (wordRule m (plan r)) t (Row.Word (plan r .word t))
 unfolding wordRule noneFrom
-word-answered m p t o clear word n e activities holds said =
-    row-answered (wordRule m p) t o clear (Row.Word word) _ said (holds ∙ ap₂ noneFrom e activities) (ap Row.Word e)
+word-answered m r grid t n o e activities said =
+    let same = word-read r grid t (wordIn grid t) e refl in
+    row-answered (wordRule m (plan r)) t o _ (Row.Word (wordIn grid t)) _ said (ap₂ noneFrom same activities) (ap Row.Word same)

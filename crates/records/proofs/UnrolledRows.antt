@@ -1,10 +1,15 @@
 -- A row of the unrolled model is a row of the page, moved on to its round; past the last there is none.
 -- Assumes nothing.
-use Prim.Native.Nat.{ℕ, _/_, _%_, _≤_, _<_}
+use Prim.Native.Nat.{ℕ, _+_, _/_, _%_, _≤_, _<_}
+use native.Mathlib.Nat.{div-eq-of-lt, mod-eq-of-lt}
 use mathlib.Core.List.{List}
 use mathlib.Core.Path.{_≡_, refl, ap₂, _∙_}
 use borrow.Author.Tests.{lt-ltb, le-ltb}
-use Rattle.schedule.specs.Model.{page, unrolled, model}
+use Rattle.schedule.specs.Fields.{field, Bytes}
+use Rattle.schedule.specs.Rounds.{inAll}
+use Rattle.schedule.specs.Model.{page, unrolled, model, threadRow, activityRow}
+use Rattle.laws.proofs.FieldLaws.{field-lt}
+use Rattle.laws.proofs.RoundLaws.{number-first, release-first, mask-first}
 use Rattle.records.specs.declared.model.Sizes.{Sizes}
 use Rattle.records.specs.declared.model.ThreadRow.{ThreadRow}
 use Rattle.records.specs.declared.model.ActivityRow.{ActivityRow}
@@ -17,40 +22,74 @@ pub all-counts : (s : List ℕ) (one : Sizes) (rounds : ℕ) → one ≡ sizesOf
 unfolding unrolledSizes sizesOf model unrolled
 all-counts s one rounds e r = ap₂ unrolledSizes e r
 
--- what was read of the page before a row: its counts, and those of all rounds
-module _ (s : List ℕ) (one all : Sizes) (rounds : ℕ) (e : one ≡ sizesOf (page s .plain)) (r : rounds ≡ page s .rounds)
-    (a : all ≡ unrolledSizes one rounds) where
-  whole : all ≡ sizesOf (model s)
-  whole = a ∙ all-counts s one rounds e r
+-- what was read of the page before a row: how many a round has, and how many all rounds have together
+module _ (s : List ℕ) (n rounds all : ℕ) (r : rounds ≡ page s .rounds) (a : all ≡ inAll rounds n) where
+  module _ (e : n ≡ page s .plain .threads) where
+    all-threads : all ≡ model s .threads
+    unfolding model unrolled
+    all-threads = a ∙ ap₂ inAll r e
 
-  pub thread-past : (j : ℕ) → all .threads ≤ j
-      → record { «least_period» = 0; «most_period» = 0; «least_release» = 0; «most_release» = 0; priority = 0 }
-      ≡ threadRowOf (model s) j
-  unfolding threadRowOf model unrolled sizesOf
-  thread-past j past = rw (le-ltb j _ (rw whole at past)) refl
+    pub thread-past : (j : ℕ) → all ≤ j
+        → record { «least_period» = 0; «most_period» = 0; «least_release» = 0; «most_release» = 0; priority = 0 }
+        ≡ threadRowOf (model s) j
+    unfolding threadRowOf model unrolled
+    thread-past j past = rw (le-ltb j _ (rw all-threads at past)) refl
 
-  pub thread-here : (j k place : ℕ) (row moved : ThreadRow) → j < all .threads → k ≡ j / one .threads
-      → place ≡ j % one .threads → row ≡ threadRowOf (page s .plain) place → moved ≡ movedThread k row
-      → moved ≡ threadRowOf (model s) j
-  unfolding threadRowOf model unrolled sizesOf movedThread
-  thread-here j k place row moved here round row-at read made =
-      rw (lt-ltb j _ (rw whole at here)) (rw (made, read, row-at, round, e) refl)
+    -- a row of round 0
+    pub thread-first : Bytes s → (j : ℕ) (row : ThreadRow) → j < all → j < n → row ≡ threadRowOf (page s .plain) j
+        → row ≡ threadRowOf (model s) j
+    unfolding threadRowOf model unrolled page
+    thread-first b j row here first read =
+        let place = rw e at first in
+        rw (
+          lt-ltb j _ (rw all-threads at here),
+          div-eq-of-lt place,
+          mod-eq-of-lt place,
+          release-first _ _ (field-lt s b (threadRow (field s 4 1) j + 4) 2),
+          release-first _ _ (field-lt s b (threadRow (field s 4 1) j + 6) 2),
+        ) read
 
-  pub activity-past : (a : ℕ) → all .activities ≤ a
-      → record {
-        thread = record { 0 = 0 };
-        «least_duration» = 0;
-        «most_duration» = 0;
-        delay = 0;
-        «temporal_mask» = 0;
-        «data_mask» = 0;
-      } ≡ activityRowOf (model s) a
-  unfolding activityRowOf model unrolled sizesOf
-  activity-past a past = rw (le-ltb a _ (rw whole at past)) refl
+    pub thread-here : (j k place : ℕ) (row moved : ThreadRow) → j < all → k ≡ j / n → place ≡ j % n
+        → row ≡ threadRowOf (page s .plain) place → moved ≡ movedThread k row → moved ≡ threadRowOf (model s) j
+    unfolding threadRowOf model unrolled movedThread
+    thread-here j k place row moved here round row-at read made =
+        rw (lt-ltb j _ (rw all-threads at here)) (rw (made, read, row-at, round, e) refl)
 
-  pub activity-here : (a k place q : ℕ) (row moved : ActivityRow) → a < all .activities → k ≡ a / one .activities
-      → place ≡ a % one .activities → row ≡ activityRowOf (page s .plain) place → q ≡ page s .loop place
-      → moved ≡ movedActivity one k q row → moved ≡ activityRowOf (model s) a
-  unfolding activityRowOf model unrolled sizesOf movedActivity
-  activity-here a k place q row moved here round row-at read loop made =
-      rw (lt-ltb a _ (rw whole at here)) (rw (made, loop, read, row-at, round, e) refl)
+  module _ (e : n ≡ page s .plain .activities) where
+    all-activities : all ≡ model s .activities
+    unfolding model unrolled
+    all-activities = a ∙ ap₂ inAll r e
+
+    pub activity-past : (x : ℕ) → all ≤ x
+        → record {
+          thread = record { 0 = 0 };
+          «least_duration» = 0;
+          «most_duration» = 0;
+          delay = 0;
+          «temporal_mask» = 0;
+          «data_mask» = 0;
+        } ≡ activityRowOf (model s) x
+    unfolding activityRowOf model unrolled
+    activity-past x past = rw (le-ltb x _ (rw all-activities at past)) refl
+
+    pub activity-first : Bytes s → (x : ℕ) (row : ActivityRow) → x < all → x < n
+        → row ≡ activityRowOf (page s .plain) x → row ≡ activityRowOf (model s) x
+    unfolding activityRowOf model unrolled page
+    activity-first b x row here first read =
+        let place = rw e at first in
+        let at : ℕ = activityRow (field s 4 1) (field s 6 1) x in
+        rw (
+          lt-ltb x _ (rw all-activities at here),
+          div-eq-of-lt place,
+          mod-eq-of-lt place,
+          number-first (field s 6 1) _ (field-lt s b at 1),
+          mask-first (field s 7 1) _ (field-lt s b (at + 7) 4),
+          mask-first (field s 7 1) _ (field-lt s b (at + 11) 4),
+        ) read
+
+    pub activity-here : (x k place q threads : ℕ) (row moved : ActivityRow) → x < all → k ≡ x / n → place ≡ x % n
+        → row ≡ activityRowOf (page s .plain) place → q ≡ page s .loop place → threads ≡ page s .plain .threads
+        → moved ≡ movedActivity threads n k q row → moved ≡ activityRowOf (model s) x
+    unfolding activityRowOf model unrolled movedActivity
+    activity-here x k place q threads row moved here round row-at read loop owners made =
+        rw (lt-ltb x _ (rw all-activities at here)) (rw (made, loop, read, row-at, round, owners, e) refl)

@@ -43,6 +43,26 @@ activityRowOf m a = record {
   «data_mask» = m .data-mask a;
 }
 
+-- the fields of a thread row, and of an activity row, that stand at a position
+unfoldable pub threadFields : List ℕ → ℕ → ThreadRow
+threadFields s at = record {
+  «least_period» = field s at 2;
+  «most_period» = field s (at + 2) 2;
+  «least_release» = field s (at + 4) 2;
+  «most_release» = field s (at + 6) 2;
+  priority = field s (at + 8) 2;
+}
+
+unfoldable pub activityFields : List ℕ → ℕ → ActivityRow
+activityFields s at = record {
+  thread = record { 0 = field s at 1 };
+  «least_duration» = field s (at + 1) 2;
+  «most_duration» = field s (at + 3) 2;
+  delay = field s (at + 5) 2;
+  «temporal_mask» = field s (at + 7) 4;
+  «data_mask» = field s (at + 11) 4;
+}
+
 -- a thread's release and period
 unfoldable pub timing : ℕ → ℕ → Timing
 timing release period = record { release = release; period = period }

@@ -25,13 +25,13 @@ movedThread k row = record {
   priority = row .priority;
 }
 
--- an activity's row in round k, with its loop byte q, where one round has these counts
-unfoldable pub movedActivity : Sizes → ℕ → ℕ → ActivityRow → ActivityRow
-movedActivity one k q row = record {
-  thread = record { 0 = numberIn k (one .threads) (row .thread .0) };
+-- an activity's row in round k, with its loop byte q, where a round has n threads and m activities
+unfoldable pub movedActivity : ℕ → ℕ → ℕ → ℕ → ActivityRow → ActivityRow
+movedActivity n m k q row = record {
+  thread = record { 0 = numberIn k n (row .thread .0) };
   «least_duration» = row .«least_duration»;
   «most_duration» = row .«most_duration»;
   delay = row .delay;
-  «temporal_mask» = withLoop k (one .activities) q (movedMask k (one .activities) (row .«temporal_mask»));
-  «data_mask» = movedMask k (one .activities) (row .«data_mask»);
+  «temporal_mask» = withLoop k m q (movedMask k m (row .«temporal_mask»));
+  «data_mask» = movedMask k m (row .«data_mask»);
 }

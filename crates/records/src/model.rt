@@ -1,5 +1,5 @@
 // The model record. Its bytes say a page of several rounds (page), with its form rules (rules); what it means is the plain
-// model unrolled, and that is what the calls here hand out, of any bytes: a page of one round is its own plain model.
+// model unrolled, and that is what the calls here hand out, of any bytes.
 use crate::Pass;
 use crate::form;
 use crate::plan::Timing;
@@ -16,7 +16,7 @@ mod page;
 mod rules;
 
 // "A thread number and an activity number are separate countings: priority is looked up by an activity's thread." Only this
-// file and the two below it make a Thread, so that elsewhere one comes out of an activity's row and from nowhere else.
+// file and page make a Thread, so that elsewhere one comes out of an activity's row and from nowhere else.
 pub struct Thread(u8);
 
 pub struct Activity(pub u8);
@@ -91,14 +91,13 @@ fn moved_thread(row: ThreadRow, k: u8) -> ThreadRow
     }
 }
 
-// Thread row j, of any bytes; zeros where there is none.
+// Thread row j, of any bytes; zeros where there is none. Round 0 is read as it stands.
 pub fn thread_row(s: &[u8], j: Thread) -> ThreadRow
     ensures { λ r. ⌜ r ≡ threadRowOf (model (now (s .entry))) (j .0) ⌝ }
 {
     let number = j.0;
-    let one = page::counts(s);
-    let all = in_all(one, page::rounds(s));
-    if all.threads <= number {
+    let n = page::threads(s);
+    if unroll::in_all(page::rounds(s), n) <= number {
         return ThreadRow {
             least_period: 0,
             most_period: 0,
@@ -107,34 +106,37 @@ pub fn thread_row(s: &[u8], j: Thread) -> ThreadRow
             priority: 0,
         };
     }
-    let row = page::thread_row(s, unroll::place(number, one.threads));
-    moved_thread(row, unroll::round(number, one.threads))
+    if number < n {
+        return page::thread_row(s, number);
+    }
+    let row = page::thread_row(s, unroll::place(number, n));
+    moved_thread(row, unroll::round(number, n))
 }
 
-// An activity's row in round k, with its loop byte q: its thread is that of the round, and "Masks move likewise".
-fn moved_activity(row: ActivityRow, one: Sizes, k: u8, q: u8) -> ActivityRow
-    ensures { λ r. ⌜ r ≡ movedActivity one k q row ⌝ }
+// An activity's row in round k of n threads and m activities each, with its loop byte q: its thread is that of the round, and
+// "Masks move likewise".
+fn moved_activity(row: ActivityRow, n: u8, m: u8, k: u8, q: u8) -> ActivityRow
+    ensures { λ r. ⌜ r ≡ movedActivity n m k q row ⌝ }
 {
     let owner = row.thread;
-    let temporal = unroll::mask(k, one.activities, row.temporal_mask);
+    let temporal = unroll::mask(k, m, row.temporal_mask);
     ActivityRow {
-        thread: Thread(unroll::number(k, one.threads, owner.0)),
+        thread: Thread(unroll::number(k, n, owner.0)),
         least_duration: row.least_duration,
         most_duration: row.most_duration,
         delay: row.delay,
-        temporal_mask: unroll::with_loop(k, one.activities, q, temporal),
-        data_mask: unroll::mask(k, one.activities, row.data_mask),
+        temporal_mask: unroll::with_loop(k, m, q, temporal),
+        data_mask: unroll::mask(k, m, row.data_mask),
     }
 }
 
-// Activity row a, of any bytes; zeros where there is none.
+// Activity row a, of any bytes; zeros where there is none. Round 0 is read as it stands.
 pub fn activity_row(s: &[u8], a: Activity) -> ActivityRow
     ensures { λ r. ⌜ r ≡ activityRowOf (model (now (s .entry))) (a .0) ⌝ }
 {
     let number = a.0;
-    let one = page::counts(s);
-    let all = in_all(one, page::rounds(s));
-    if all.activities <= number {
+    let m = page::activities(s);
+    if unroll::in_all(page::rounds(s), m) <= number {
         return ActivityRow {
             thread: Thread(0),
             least_duration: 0,
@@ -144,10 +146,13 @@ pub fn activity_row(s: &[u8], a: Activity) -> ActivityRow
             data_mask: 0,
         };
     }
-    let place = unroll::place(number, one.activities);
-    let k = unroll::round(number, one.activities);
+    if number < m {
+        return page::activity_row(s, number);
+    }
+    let place = unroll::place(number, m);
+    let k = unroll::round(number, m);
     let q = page::loop_byte(s, place);
-    moved_activity(page::activity_row(s, place), one, k, q)
+    moved_activity(page::activity_row(s, place), page::threads(s), m, k, q)
 }
 
 // ---- rule 12, of a choice or a plan

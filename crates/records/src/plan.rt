@@ -18,11 +18,11 @@ ghost use lib.ListN.{length};
 ghost use Rattle.schedule.specs.Fields.{pair};
 ghost use Rattle.schedule.specs.Rule.{break, firstBreak};
 ghost use Rattle.schedule.specs.Model.{model};
-ghost use Rattle.schedule.specs.Plan.{plan, planForm, planThreadRow, planActivityRow, gridAt, planGrid, planLength, wordRule};
+ghost use Rattle.schedule.specs.Plan.{plan, planForm, planThreadRow, planActivityRow, gridAt, planGrid, planLength, wordIn, wordRule};
 ghost use Rattle.fields.specs.Put.{put};
-ghost use Rattle.records.specs.Rows.{planSizesOf, timing, spanOf, horizonHolds};
+ghost use Rattle.records.specs.Rows.{planSizesOf, timing, spanOf, horizonHolds, noneFrom};
 ghost use Rattle.records.specs.Writes.{headBytes};
-ghost use Rattle.records.specs.Reads.{rowAnswer, rowReadNumbers, passNumbers, planReadNumbers};
+ghost use Rattle.records.specs.Reads.{answerAt, rowReadNumbers, passNumbers, planReadNumbers};
 
 // The counts at the head of a plan.
 pub struct PlanSizes {
@@ -195,15 +195,13 @@ fn horizon_holds(s: &[u8], r: &[u8]) -> bool
     fields::be16(r, 7) == sizes.horizon
 }
 
-// The word of tick t, or its refusal by rule 14: "a bit at or above m".
-fn read_word(s: &[u8], r: &[u8], t: u16) -> RowRead
+// The word of tick t in a grid, or its refusal by rule 14, where there are so many activities: "a bit at or above m".
+fn read_word(grid: &[u8], t: u16, activities: u8) -> RowRead
     ensures { λ x. ⌜ rowReadNumbers x
-        ≡ rowAnswer (wordRule (model (now (s .entry))) (plan (now (r .entry)))) t
-        (Row.Word (plan (now (r .entry)) .word t)) ⌝ }
+        ≡ answerAt (noneFrom (wordIn (now (grid .entry)) t) activities) (Row.Word (wordIn (now (grid .entry)) t)) 14 t ⌝ }
 {
-    let active = word(r, t);
-    let sizes = model::counts(s);
-    let holds = form::none_from(active, sizes.activities);
+    let active = grid::word(grid, t as usize);
+    let holds = form::none_from(active, activities);
     rows::answer(holds, Row::Word(active), FormRefusal::WordBits, t as u32)
 }
 
@@ -212,10 +210,12 @@ fn over_words(s: &[u8], r: &[u8]) -> Pass
     ensures { λ x. ⌜ passNumbers x ≡ break (wordRule (model (now (s .entry))) (plan (now (r .entry)))) ⌝ }
 {
     let sizes = model::counts(s);
+    let activities = sizes.activities;
     let horizon = sizes.horizon;
+    let grid = words(r);
     let mut t: u16 = 0;
     while t < horizon {
-        let read = read_word(s, r, t);
+        let read = read_word(grid, t, activities);
         let RowRead::Row(_) = read else {
             return read.pass();
         };

@@ -100,8 +100,8 @@ written m q = record { length = lengthNeeded m; figures = figures m (machinePlan
 unfoldable pub runChecks : List ℕ → List ℕ → List Rule
 runChecks s q = modelForm s ++ choiceForm (model s) q
 
--- How the run ends, by where its refusal comes from: "From the input" (1 to 13), or "From the state of the buffer or run",
--- which is the buffer's room (41) or the run itself (42 and 43); or with a plan written.
+-- How the run ends, by where its refusal comes from: "From the input" (1 to 13 and 51 to 53), or "From the state of the buffer
+-- or run", which is the buffer's room (41) or the run itself (42 and 43); or with a plan written.
 pub data Outcome : Type 0 where
   from-input : Refusal → Outcome
   from-buffer : Refusal → Outcome
@@ -144,7 +144,7 @@ bufferAfter (succeeded w) m q buffer = planBytes (machinePlan m q) ++ drop (w .l
 unfoldable pub runBuffer : List ℕ → List ℕ → List ℕ → List ℕ
 runBuffer s q buffer = bufferAfter (runOutcome s q (length buffer)) (model s) (choice q) buffer
 
--- "A model that passes 1 to 7 meets its form rules"
+-- "A model that passes 1 to 7 meets its form rules": with 51 to 53 among them (02)
 abbrev pub MeetsForm : List ℕ → Type 0
 MeetsForm s = AllHold (modelForm s)
 

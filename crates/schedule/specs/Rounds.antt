@@ -1,6 +1,6 @@
 -- What moving a plain model on to round k does to its numbers, releases and masks: "It means the plain model unrolled" (U4 of
 -- 02). A result keeps the size of its field, 1, 2 or 4 bytes, of any arguments whatever: what is moved past the field's last
--- bit is cut off. On a page that meets its form rules nothing is (crate demands, Rounds: Unrolls).
+-- bit is cut off. On a page that meets its form rules nothing is (crate demands, Rounds: PagesUnroll).
 -- Assumes nothing.
 use Prim.Native.Nat.{ℕ, _+_, _-_, _*_, _%_, _^_}
 use mathlib.Core.Bool.{_||_, cond}

@@ -34,7 +34,7 @@ pub data WordOrPast : Type 0 where
   word : ℕ → WordOrPast
   past : WordOrPast
 
--- the making of a view is "refused with the number, A and B that the check gives", by rules 1 to 14 only
+-- the making of a view is "refused with the number, A and B that the check gives", by the form rules of both records only
 unfoldable pub viewRefusal : List ℕ → List ℕ → Option Refusal
 viewRefusal s r = firstBreak (modelForm s ++ planForm (model s) r)
 

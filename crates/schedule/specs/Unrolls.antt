@@ -1,5 +1,5 @@
 -- What a page means, as U4 of 02 says it, with nothing that computes: a model that is a page's plain model unrolled, thread by
--- thread and mask by mask. crate laws, Unrolled, shows it of the model that a record's bytes say.
+-- thread and mask by mask. crate demands, Rounds, shows it of the model that a record's bytes say (PagesUnroll).
 -- Assumes nothing.
 use Prim.Native.Nat.{ℕ, suc, _+_, _*_, _<_}
 use mathlib.Core.Logic.{_⊎_, _↔_}
@@ -20,8 +20,8 @@ pub record ThreadMoved (p : Page) (m : Model) (k j x : ℕ) : Type 0 where
   pub priority : m .priority x ≡ p .plain .priority j
 
 -- "and activity a is k times m + a. Masks move likewise. With loop byte q, activity q of round k is a temporal predecessor of a
--- in round k + 1": and there is no other predecessor. Row x of the model's activities is that of row a in round k, and row y
--- that of any row b in any round l.
+-- in round k + 1": and there is no other predecessor, whatever row b and round l are looked at. Row x of the model's
+-- activities is that of row a in round k. Bits at or above the counts, and rows past them, are no activities.
 pub record ActivityMoved (p : Page) (m : Model) (k a x : ℕ) : Type 0 where
   pub thread : m .thread x ≡ k * p .plain .threads + p .plain .thread a
   pub least-duration : m .least-duration x ≡ p .plain .least-duration a

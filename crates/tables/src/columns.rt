@@ -1,6 +1,7 @@
 // Columns of the records by activity.
 use crate::ByActivity;
 use records::model::Activity;
+use records::model::Thread;
 ghost use mathlib.Core.Path.{_≡_};
 ghost use Prim.Native.Nat.{min};
 ghost use Rattle.schedule.specs.Model.{model};
@@ -47,18 +48,24 @@ fn among(s: &[u8], mask: u32) -> u32
     mask & bits::below(sizes.activities as u32)
 }
 
+// The thread of an activity.
+fn owner(s: &[u8], a: Activity) -> Thread
+    ensures { λ r. ⌜ r .0 ≡ model (now (s .entry)) .thread (a .0) ⌝ }
+{
+    records::model::activity_row(s, a).thread
+}
+
 // A column's entry for activity a: "priority is looked up by an activity's thread", and so are release and period.
 fn entry(which: Column, s: &[u8], second: &[u8], a: Activity) -> u32
     ensures { λ r. ⌜ r ≡ entryOf which (now (s .entry)) (now (second .entry)) (a .0) ⌝ }
 {
-    let row = records::model::activity_row(s, a);
     match which {
-        Column::Delay => wide(row.delay),
-        Column::Temporal => among(s, row.temporal_mask),
-        Column::ByData => among(s, row.data_mask),
-        Column::Priority => wide(records::model::thread_row(s, row.thread).priority),
-        Column::ChosenRelease => wide(records::choice::thread_row(second, row.thread).release),
-        Column::ChosenPeriod => wide(records::choice::thread_row(second, row.thread).period),
+        Column::Delay => wide(records::model::activity_row(s, a).delay),
+        Column::Temporal => among(s, records::model::activity_row(s, a).temporal_mask),
+        Column::ByData => among(s, records::model::activity_row(s, a).data_mask),
+        Column::Priority => wide(records::model::thread_row(s, owner(s, a)).priority),
+        Column::ChosenRelease => wide(records::choice::thread_row(second, owner(s, a)).release),
+        Column::ChosenPeriod => wide(records::choice::thread_row(second, owner(s, a)).period),
         Column::ChosenDuration => wide(records::choice::duration(second, a)),
         Column::PlanStart => wide(records::plan::activity_row(second, a).start),
         Column::PlanEnd => wide(records::plan::activity_row(second, a).end),

@@ -18,7 +18,7 @@ pub struct View<'a> {
 
 // ---- over plain slices
 
-// Rules 1 to 14: "refused with the number, A and B that the check gives".
+// The form rules of both records: "refused with the number, A and B that the check gives".
 pub fn refusal(model: &[u8], plan: &[u8]) -> Pass
     ensures { λ r. ⌜ passNumbers r ≡ viewRefusal (now (model .entry)) (now (plan .entry)) ⌝ }
 {

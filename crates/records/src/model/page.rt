@@ -9,7 +9,7 @@ ghost use mathlib.Core.Path.{_≡_};
 ghost use Prim.Native.Nat.{_≤_};
 ghost use Rattle.schedule.specs.Fields.{field};
 ghost use Rattle.schedule.specs.Model.{page, modelLength, threadRow, activityRow};
-ghost use Rattle.records.specs.Rows.{sizesOf, threadRowOf, activityRowOf};
+ghost use Rattle.records.specs.Rows.{sizesOf, threadRowOf, threadFields, activityRowOf, activityFields};
 
 // The version byte.
 fn version(s: &[u8]) -> u8
@@ -28,6 +28,19 @@ pub(crate) fn counts(s: &[u8]) -> Sizes
         activities: fields::byte(s, 7),
         horizon: fields::be16(s, 8),
     }
+}
+
+// Those of the threads, and of the activities, alone.
+pub(crate) fn threads(s: &[u8]) -> u8
+    ensures { λ r. ⌜ r ≡ page (now (s .entry)) .plain .threads ⌝ }
+{
+    fields::byte(s, 6)
+}
+
+pub(crate) fn activities(s: &[u8]) -> u8
+    ensures { λ r. ⌜ r ≡ page (now (s .entry)) .plain .activities ⌝ }
+{
+    fields::byte(s, 7)
 }
 
 // How many rounds there are: "Version 1 is one round".
@@ -75,13 +88,22 @@ pub(crate) fn length(s: &[u8], one: Sizes) -> u32
     activity_at(version(s), one.threads, one.activities) as u32
 }
 
-// ---- the rows
+// ---- the rows, each read at once where all of it is there
 
-// Thread row j.
-pub(crate) fn thread_row(s: &[u8], j: u8) -> ThreadRow
-    ensures { λ r. ⌜ r ≡ threadRowOf (page (now (s .entry)) .plain) j ⌝ }
+// The fields of a thread row at a position.
+fn thread_fields(s: &[u8], at: usize) -> ThreadRow
+    requires { ⌜ at ≤ 2561 ⌝ }
+    ensures { λ r. ⌜ r ≡ threadFields (now (s .entry)) at ⌝ }
 {
-    let at = thread_at(version(s), j);
+    if at + 10 <= s.len() {
+        return ThreadRow {
+            least_period: fields::paired(s[at], s[at + 1]),
+            most_period: fields::paired(s[at + 2], s[at + 3]),
+            least_release: fields::paired(s[at + 4], s[at + 5]),
+            most_release: fields::paired(s[at + 6], s[at + 7]),
+            priority: fields::paired(s[at + 8], s[at + 9]),
+        };
+    }
     ThreadRow {
         least_period: fields::be16(s, at),
         most_period: fields::be16(s, at + 2),
@@ -91,11 +113,29 @@ pub(crate) fn thread_row(s: &[u8], j: u8) -> ThreadRow
     }
 }
 
-// Activity row a, without its loop byte.
-pub(crate) fn activity_row(s: &[u8], a: u8) -> ActivityRow
-    ensures { λ r. ⌜ r ≡ activityRowOf (page (now (s .entry)) .plain) a ⌝ }
+// Thread row j.
+pub(crate) fn thread_row(s: &[u8], j: u8) -> ThreadRow
+    ensures { λ r. ⌜ r ≡ threadRowOf (page (now (s .entry)) .plain) j ⌝ }
 {
-    let at = activity_at(version(s), fields::byte(s, 6), a);
+    thread_fields(s, thread_at(version(s), j))
+}
+
+// The fields of an activity row at a position, without its loop byte.
+fn activity_fields(s: &[u8], at: usize) -> ActivityRow
+    requires { ⌜ at ≤ 6641 ⌝ }
+    ensures { λ r. ⌜ r ≡ activityFields (now (s .entry)) at ⌝ }
+{
+    if at + 15 <= s.len() {
+        let owner = s[at];
+        return ActivityRow {
+            thread: Thread(owner),
+            least_duration: fields::paired(s[at + 1], s[at + 2]),
+            most_duration: fields::paired(s[at + 3], s[at + 4]),
+            delay: fields::paired(s[at + 5], s[at + 6]),
+            temporal_mask: fields::joined(s[at + 7], s[at + 8], s[at + 9], s[at + 10]),
+            data_mask: fields::joined(s[at + 11], s[at + 12], s[at + 13], s[at + 14]),
+        };
+    }
     let owner = fields::byte(s, at);
     ActivityRow {
         thread: Thread(owner),
@@ -107,6 +147,13 @@ pub(crate) fn activity_row(s: &[u8], a: u8) -> ActivityRow
     }
 }
 
+// Activity row a, without its loop byte.
+pub(crate) fn activity_row(s: &[u8], a: u8) -> ActivityRow
+    ensures { λ r. ⌜ r ≡ activityRowOf (page (now (s .entry)) .plain) a ⌝ }
+{
+    activity_fields(s, activity_at(version(s), threads(s), a))
+}
+
 // Its loop byte: version 1 has none.
 pub(crate) fn loop_byte(s: &[u8], a: u8) -> u8
     ensures { λ r. ⌜ r ≡ page (now (s .entry)) .loop a ⌝ }
@@ -115,6 +162,6 @@ pub(crate) fn loop_byte(s: &[u8], a: u8) -> u8
     if version == 1 {
         unroll::NO_LOOP
     } else {
-        fields::byte(s, activity_at(version, fields::byte(s, 6), a) + 15)
+        fields::byte(s, activity_at(version, threads(s), a) + 15)
     }
 }

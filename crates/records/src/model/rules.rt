@@ -21,6 +21,9 @@ ghost use Rattle.records.specs.RowRules.{rowAt};
 
 // ---- rules 1 to 4 and 51
 
+// The newest version of a model.
+const NEWEST: u8 = 2;
+
 // "3 c, n, m or H outside its limits"
 fn limits_hold(x: Sizes) -> bool
     ensures { λ r. ⌜ r ≡ limitsHold x ⌝ }
@@ -61,7 +64,7 @@ pub(crate) fn head(s: &[u8]) -> Pass
         counts: FormRefusal::ModelLimits,
         formula: FormRefusal::ModelFormula,
     };
-    let first = form::head(s, names, 10, 2, limits_hold(one), page::length(s, one));
+    let first = form::head(s, names, 10, NEWEST, limits_hold(one), page::length(s, one));
     if let Pass::Refused(_) = first {
         return first;
     }

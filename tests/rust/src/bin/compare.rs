@@ -1,7 +1,8 @@
 //! Compares the exports with the reference over many pairs of records: a model and a plan by both checks, a model and a
 //! choice by the run and by the report of lateness, with the whole of what these two were lent; the report is then held
-//! against the exported run, and a page of version 2 against the record of version 1 of its unrolled model. It stops at the first difference, prints that case and exits with 1. It prints how often each
-//! call gave each answer, and exits with 1 if one that the call can give came fewer than a hundred times.
+//! against the exported run, and a page of version 2 against the record of version 1 of its unrolled model. It stops at the
+//! first difference, prints that case and exits with 1. It prints how often each call gave each answer, and exits with 1 if
+//! one that the call can give came fewer than a hundred times.
 //!
 //! `compare [CASES]` tries cases 0 to CASES - 1, `compare FIRST..END` those from FIRST to END - 1, of which no number of
 //! answers is asked.

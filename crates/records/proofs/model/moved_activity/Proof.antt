@@ -20,9 +20,8 @@ mask-requires-2 c κs = search needs
 returns : tie.Need-returns
 unfolding movedActivity
 returns c =
-    let c3 = c .before .before .before in
     rw (
-      ← c3 .mask .ensures,
+      ← c .before .before .before .mask .ensures,
       ← c .before .before .number .ensures,
       ← c .before .with-loop .ensures,
       ← c .mask2 .ensures,

@@ -9,8 +9,8 @@ use Rattle.records.proofs.model.page.loop_byte.Tie as tie
 version-requires : tie.Need-version-requires
 version-requires c κs = search needs
 
-byte-requires : tie.Need-byte-requires
-byte-requires c κs = search needs
+threads-requires : tie.Need-threads-requires
+threads-requires c κs = search needs
 
 activity-at-requires : tie.Need-activity-at-requires
 activity-at-requires c κs = search needs
@@ -18,8 +18,8 @@ activity-at-requires c κs = search needs
 add-byte : tie.Need-add-byte
 add-byte c = search needs
 
-byte-requires-2 : tie.Need-byte-requires-2
-byte-requires-2 c κs = search needs
+byte-requires : tie.Need-byte-requires
+byte-requires c κs = search needs
 
 returns : tie.Need-returns
 unfolding page
@@ -31,19 +31,19 @@ returns-2 c =
     let c3 = c .before .before .before in
     rw (
       ← c3 .before .version .ensures,
-      ← c .before .before .byte .ensures,
+      ← c .before .before .threads .ensures,
       ← c .before .activity-at .ensures .0,
       ne-eqb _ _ (c3 .if1 .left),
-    ) (c .byte2 .ensures)
+    ) (c .byte .ensures)
 
 pub loop-byte-spec : {M : Type 1} → statement M
 loop-byte-spec =
     tie.close
     (tie.spec
     version-requires
-    byte-requires
+    threads-requires
     activity-at-requires
     add-byte
-    byte-requires-2
+    byte-requires
     returns
     returns-2)

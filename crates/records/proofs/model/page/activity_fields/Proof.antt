@@ -1,0 +1,220 @@
+-- `model::page::activity_fields` meets its contract: the bytes read at once, or field by field, are those of the definition.
+-- Assumes nothing.
+use mathlib.Core.Path.{refl}
+use Rattle.records.specs.Rows.{activityFields}
+use Rattle.records.proofs.RowFields.{activity-read}
+use borrow.Author.Needs.{needs}
+use Rattle.records.proofs.model.page.activity_fields.Statement.{statement}
+use Rattle.records.proofs.model.page.activity_fields.Tie as tie
+
+add-if1 : tie.Need-add-if1
+add-if1 c = search needs
+
+shared-slice-read-owner : tie.Need-shared-slice-read-owner
+shared-slice-read-owner c = search needs
+
+add-paired : tie.Need-add-paired
+add-paired c = search needs
+
+shared-slice-read-paired : tie.Need-shared-slice-read-paired
+shared-slice-read-paired c = search needs
+
+add-paired-2 : tie.Need-add-paired-2
+add-paired-2 c = search needs
+
+shared-slice-read-paired-2 : tie.Need-shared-slice-read-paired-2
+shared-slice-read-paired-2 c = search needs
+
+paired-requires : tie.Need-paired-requires
+paired-requires c κs = search needs
+
+add-paired-3 : tie.Need-add-paired-3
+add-paired-3 c = search needs
+
+shared-slice-read-paired-3 : tie.Need-shared-slice-read-paired-3
+shared-slice-read-paired-3 c = search needs
+
+add-paired-4 : tie.Need-add-paired-4
+add-paired-4 c = search needs
+
+shared-slice-read-paired-4 : tie.Need-shared-slice-read-paired-4
+shared-slice-read-paired-4 c = search needs
+
+paired-requires-2 : tie.Need-paired-requires-2
+paired-requires-2 c κs = search needs
+
+add-paired-5 : tie.Need-add-paired-5
+add-paired-5 c = search needs
+
+shared-slice-read-paired-5 : tie.Need-shared-slice-read-paired-5
+shared-slice-read-paired-5 c = search needs
+
+add-paired-6 : tie.Need-add-paired-6
+add-paired-6 c = search needs
+
+shared-slice-read-paired-6 : tie.Need-shared-slice-read-paired-6
+shared-slice-read-paired-6 c = search needs
+
+paired-requires-3 : tie.Need-paired-requires-3
+paired-requires-3 c κs = search needs
+
+add-joined : tie.Need-add-joined
+add-joined c = search needs
+
+shared-slice-read-joined : tie.Need-shared-slice-read-joined
+shared-slice-read-joined c = search needs
+
+add-joined-2 : tie.Need-add-joined-2
+add-joined-2 c = search needs
+
+shared-slice-read-joined-2 : tie.Need-shared-slice-read-joined-2
+shared-slice-read-joined-2 c = search needs
+
+add-joined-3 : tie.Need-add-joined-3
+add-joined-3 c = search needs
+
+shared-slice-read-joined-3 : tie.Need-shared-slice-read-joined-3
+shared-slice-read-joined-3 c = search needs
+
+add-joined-4 : tie.Need-add-joined-4
+add-joined-4 c = search needs
+
+shared-slice-read-joined-4 : tie.Need-shared-slice-read-joined-4
+shared-slice-read-joined-4 c = search needs
+
+joined-requires : tie.Need-joined-requires
+joined-requires c κs = search needs
+
+add-joined-5 : tie.Need-add-joined-5
+add-joined-5 c = search needs
+
+shared-slice-read-joined-5 : tie.Need-shared-slice-read-joined-5
+shared-slice-read-joined-5 c = search needs
+
+add-joined-6 : tie.Need-add-joined-6
+add-joined-6 c = search needs
+
+shared-slice-read-joined-6 : tie.Need-shared-slice-read-joined-6
+shared-slice-read-joined-6 c = search needs
+
+add-joined-7 : tie.Need-add-joined-7
+add-joined-7 c = search needs
+
+shared-slice-read-joined-7 : tie.Need-shared-slice-read-joined-7
+shared-slice-read-joined-7 c = search needs
+
+add-joined-8 : tie.Need-add-joined-8
+add-joined-8 c = search needs
+
+shared-slice-read-joined-8 : tie.Need-shared-slice-read-joined-8
+shared-slice-read-joined-8 c = search needs
+
+joined-requires-2 : tie.Need-joined-requires-2
+joined-requires-2 c κs = search needs
+
+returns : tie.Need-returns
+returns c =
+    let c5 = c .before .before .before .before .before in
+    let c10 = c5 .before .before .before .before .before in
+    let c13 = c10 .before .before .before in
+    activity-read _ _ _ _ _ _ _ _ refl (c13 .before .before .before .paired .ensures) (c13 .paired2 .ensures)
+    (c10 .paired3 .ensures) (c5 .joined .ensures) (c .joined2 .ensures)
+
+byte-requires : tie.Need-byte-requires
+byte-requires c κs = search needs
+
+add-be16 : tie.Need-add-be16
+add-be16 c = search needs
+
+be16-requires : tie.Need-be16-requires
+be16-requires c κs = search needs
+
+add-be16-2 : tie.Need-add-be16-2
+add-be16-2 c = search needs
+
+be16-requires-2 : tie.Need-be16-requires-2
+be16-requires-2 c κs = search needs
+
+add-be16-3 : tie.Need-add-be16-3
+add-be16-3 c = search needs
+
+be16-requires-3 : tie.Need-be16-requires-3
+be16-requires-3 c κs = search needs
+
+add-be32 : tie.Need-add-be32
+add-be32 c = search needs
+
+be32-requires : tie.Need-be32-requires
+be32-requires c κs = search needs
+
+add-be32-2 : tie.Need-add-be32-2
+add-be32-2 c = search needs
+
+be32-requires-2 : tie.Need-be32-requires-2
+be32-requires-2 c κs = search needs
+
+returns-2 : tie.Need-returns-2
+unfolding activityFields
+returns-2 c =
+    let c3 = c .before .before .before in
+    rw (
+      ← c3 .before .before .byte .ensures,
+      ← c3 .before .be16 .ensures,
+      ← c3 .be162 .ensures,
+      ← c .before .before .be163 .ensures,
+      ← c .before .be32 .ensures,
+      ← c .be322 .ensures,
+    )
+
+pub activity-fields-spec : {M : Type 1} → statement M
+activity-fields-spec =
+    tie.close
+    (tie.spec
+    add-if1
+    shared-slice-read-owner
+    add-paired
+    shared-slice-read-paired
+    add-paired-2
+    shared-slice-read-paired-2
+    paired-requires
+    add-paired-3
+    shared-slice-read-paired-3
+    add-paired-4
+    shared-slice-read-paired-4
+    paired-requires-2
+    add-paired-5
+    shared-slice-read-paired-5
+    add-paired-6
+    shared-slice-read-paired-6
+    paired-requires-3
+    add-joined
+    shared-slice-read-joined
+    add-joined-2
+    shared-slice-read-joined-2
+    add-joined-3
+    shared-slice-read-joined-3
+    add-joined-4
+    shared-slice-read-joined-4
+    joined-requires
+    add-joined-5
+    shared-slice-read-joined-5
+    add-joined-6
+    shared-slice-read-joined-6
+    add-joined-7
+    shared-slice-read-joined-7
+    add-joined-8
+    shared-slice-read-joined-8
+    joined-requires-2
+    returns
+    byte-requires
+    add-be16
+    be16-requires
+    add-be16-2
+    be16-requires-2
+    add-be16-3
+    be16-requires-3
+    add-be32
+    be32-requires
+    add-be32-2
+    be32-requires-2
+    returns-2)
