@@ -341,7 +341,9 @@ module _ (p : Page) (h : Formal p) where
   masks-kept =
       every-activity (λ x. maskRule (unrolled p) .Holds x 0)
       (λ k a round place x less above. (
-        λ t. ⊎-elim (moved (p .plain .temporal-mask a) k a x above less place (λ y less above. h .masks a place y less above .0)) (loop k a x round place above)
+        λ t. ⊎-elim
+            (moved (p .plain .temporal-mask a) k a x above less place (λ y less above. h .masks a place y less above .0))
+            (loop k a x round place above)
             (T-or (movedBit k (p .plain .temporal-mask a) x) (loopBit k a x) .0
             (subst (λ c. T c) (temporal-bit k a x round place less) t)),
         λ t. moved (p .plain .data-mask a) k a x above less place (λ y less above. h .masks a place y less above .1)

@@ -13,7 +13,7 @@ use Rattle.laws.proofs.RoundLaws.{number-first, release-first, mask-first}
 use Rattle.records.specs.declared.model.Sizes.{Sizes}
 use Rattle.records.specs.declared.model.ThreadRow.{ThreadRow}
 use Rattle.records.specs.declared.model.ActivityRow.{ActivityRow}
-use Rattle.records.specs.Rows.{sizesOf, threadRowOf, activityRowOf}
+use Rattle.records.specs.Rows.{sizesOf, threadRowOf, threadFields, activityRowOf, activityFields}
 use Rattle.records.specs.Unrolled.{unrolledSizes, movedThread, movedActivity}
 
 -- the counts of all rounds, from those of one and the number of rounds
@@ -35,11 +35,11 @@ module _ (s : List ℕ) (n rounds all : ℕ) (r : rounds ≡ page s .rounds) (a 
     unfolding threadRowOf model unrolled
     thread-past j past = rw (le-ltb j _ (rw all-threads at past)) refl
 
-    -- a row of round 0
-    pub thread-first : Bytes s → (j : ℕ) (row : ThreadRow) → j < all → j < n → row ≡ threadRowOf (page s .plain) j
-        → row ≡ threadRowOf (model s) j
-    unfolding threadRowOf model unrolled page
-    thread-first b j row here first read =
+    -- a row of round 0, read at its place
+    pub thread-first : Bytes s → (j at : ℕ) (row : ThreadRow) → j < all → j < n → at ≡ threadRow (field s 4 1) j
+        → row ≡ threadFields s at → row ≡ threadRowOf (model s) j
+    unfolding threadRowOf threadFields model unrolled page
+    thread-first b j at row here first place-at read =
         let place = rw e at first in
         rw (
           lt-ltb j _ (rw all-threads at here),
@@ -47,6 +47,7 @@ module _ (s : List ℕ) (n rounds all : ℕ) (r : rounds ≡ page s .rounds) (a 
           mod-eq-of-lt place,
           release-first _ _ (field-lt s b (threadRow (field s 4 1) j + 4) 2),
           release-first _ _ (field-lt s b (threadRow (field s 4 1) j + 6) 2),
+          ← place-at,
         ) read
 
     pub thread-here : (j k place : ℕ) (row moved : ThreadRow) → j < all → k ≡ j / n → place ≡ j % n
@@ -72,19 +73,21 @@ module _ (s : List ℕ) (n rounds all : ℕ) (r : rounds ≡ page s .rounds) (a 
     unfolding activityRowOf model unrolled
     activity-past x past = rw (le-ltb x _ (rw all-activities at past)) refl
 
-    pub activity-first : Bytes s → (x : ℕ) (row : ActivityRow) → x < all → x < n
-        → row ≡ activityRowOf (page s .plain) x → row ≡ activityRowOf (model s) x
-    unfolding activityRowOf model unrolled page
-    activity-first b x row here first read =
+    pub activity-first : Bytes s → (x at : ℕ) (row : ActivityRow) → x < all → x < n
+        → at ≡ activityRow (field s 4 1) (page s .plain .threads) x → row ≡ activityFields s at
+        → row ≡ activityRowOf (model s) x
+    unfolding activityRowOf activityFields model unrolled page
+    activity-first b x at row here first place-at read =
         let place = rw e at first in
-        let at : ℕ = activityRow (field s 4 1) (field s 6 1) x in
+        let begin : ℕ = activityRow (field s 4 1) (field s 6 1) x in
         rw (
           lt-ltb x _ (rw all-activities at here),
           div-eq-of-lt place,
           mod-eq-of-lt place,
-          number-first (field s 6 1) _ (field-lt s b at 1),
-          mask-first (field s 7 1) _ (field-lt s b (at + 7) 4),
-          mask-first (field s 7 1) _ (field-lt s b (at + 11) 4),
+          number-first (field s 6 1) _ (field-lt s b begin 1),
+          mask-first (field s 7 1) _ (field-lt s b (begin + 7) 4),
+          mask-first (field s 7 1) _ (field-lt s b (begin + 11) 4),
+          ← place-at,
         ) read
 
     pub activity-here : (x k place q threads : ℕ) (row moved : ActivityRow) → x < all → k ≡ x / n → place ≡ x % n

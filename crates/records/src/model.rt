@@ -7,7 +7,7 @@ use schedule::Refusal;
 ghost use mathlib.Core.Path.{_≡_};
 ghost use Rattle.schedule.specs.Rule.{firstBreak};
 ghost use Rattle.schedule.specs.Answers.{answer};
-ghost use Rattle.schedule.specs.Model.{model, modelForm};
+ghost use Rattle.schedule.specs.Model.{page, model, modelForm};
 ghost use Rattle.records.specs.Rows.{sizesOf, threadRowOf, activityRowOf, timingHolds};
 ghost use Rattle.records.specs.Unrolled.{unrolledSizes, movedThread, movedActivity};
 ghost use Rattle.records.specs.Reads.{modelReadNumbers};
@@ -91,13 +91,12 @@ fn moved_thread(row: ThreadRow, k: u8) -> ThreadRow
     }
 }
 
-// Thread row j, of any bytes; zeros where there is none. Round 0 is read as it stands.
-pub fn thread_row(s: &[u8], j: Thread) -> ThreadRow
-    ensures { λ r. ⌜ r ≡ threadRowOf (model (now (s .entry))) (j .0) ⌝ }
+// Thread row j, of any bytes; zeros where there is none.
+fn any_thread(s: &[u8], j: u8, n: u8) -> ThreadRow
+    requires { ⌜ n ≡ page (now s) .plain .threads ⌝ }
+    ensures { λ r. ⌜ r ≡ threadRowOf (model (now (s .entry))) j ⌝ }
 {
-    let number = j.0;
-    let n = page::threads(s);
-    if unroll::in_all(page::rounds(s), n) <= number {
+    if unroll::in_all(page::rounds(s), n) <= j {
         return ThreadRow {
             least_period: 0,
             most_period: 0,
@@ -106,11 +105,25 @@ pub fn thread_row(s: &[u8], j: Thread) -> ThreadRow
             priority: 0,
         };
     }
+    let row = page::thread_row(s, unroll::place(j, n));
+    moved_thread(row, unroll::round(j, n))
+}
+
+// The same; a row of round 0 that is all there is read at once.
+pub fn thread_row(s: &[u8], j: Thread) -> ThreadRow
+    ensures { λ r. ⌜ r ≡ threadRowOf (model (now (s .entry))) (j .0) ⌝ }
+{
+    let number = j.0;
+    let n = page::threads(s);
     if number < n {
-        return page::thread_row(s, number);
+        if number < unroll::in_all(page::rounds(s), n) {
+            let at = page::thread_place(s, number);
+            if at + 10 <= s.len() {
+                return page::thread_whole(s, at);
+            }
+        }
     }
-    let row = page::thread_row(s, unroll::place(number, n));
-    moved_thread(row, unroll::round(number, n))
+    any_thread(s, number, n)
 }
 
 // An activity's row in round k of n threads and m activities each, with its loop byte q: its thread is that of the round, and
@@ -130,13 +143,12 @@ fn moved_activity(row: ActivityRow, n: u8, m: u8, k: u8, q: u8) -> ActivityRow
     }
 }
 
-// Activity row a, of any bytes; zeros where there is none. Round 0 is read as it stands.
-pub fn activity_row(s: &[u8], a: Activity) -> ActivityRow
-    ensures { λ r. ⌜ r ≡ activityRowOf (model (now (s .entry))) (a .0) ⌝ }
+// Activity row a, of any bytes; zeros where there is none.
+fn any_activity(s: &[u8], a: u8, m: u8) -> ActivityRow
+    requires { ⌜ m ≡ page (now s) .plain .activities ⌝ }
+    ensures { λ r. ⌜ r ≡ activityRowOf (model (now (s .entry))) a ⌝ }
 {
-    let number = a.0;
-    let m = page::activities(s);
-    if unroll::in_all(page::rounds(s), m) <= number {
+    if unroll::in_all(page::rounds(s), m) <= a {
         return ActivityRow {
             thread: Thread(0),
             least_duration: 0,
@@ -146,13 +158,27 @@ pub fn activity_row(s: &[u8], a: Activity) -> ActivityRow
             data_mask: 0,
         };
     }
-    if number < m {
-        return page::activity_row(s, number);
-    }
-    let place = unroll::place(number, m);
-    let k = unroll::round(number, m);
+    let place = unroll::place(a, m);
+    let k = unroll::round(a, m);
     let q = page::loop_byte(s, place);
     moved_activity(page::activity_row(s, place), page::threads(s), m, k, q)
+}
+
+// The same; a row of round 0 that is all there is read at once.
+pub fn activity_row(s: &[u8], a: Activity) -> ActivityRow
+    ensures { λ r. ⌜ r ≡ activityRowOf (model (now (s .entry))) (a .0) ⌝ }
+{
+    let number = a.0;
+    let m = page::activities(s);
+    if number < m {
+        if number < unroll::in_all(page::rounds(s), m) {
+            let at = page::activity_place(s, number);
+            if at + 15 <= s.len() {
+                return page::activity_whole(s, at);
+            }
+        }
+    }
+    any_activity(s, number, m)
 }
 
 // ---- rule 12, of a choice or a plan

@@ -6,7 +6,8 @@ use crate::model::Sizes;
 use crate::model::Thread;
 use crate::model::ThreadRow;
 ghost use mathlib.Core.Path.{_≡_};
-ghost use Prim.Native.Nat.{_≤_};
+ghost use Prim.Native.Nat.{_+_, _≤_};
+ghost use lib.ListN.{length};
 ghost use Rattle.schedule.specs.Fields.{field};
 ghost use Rattle.schedule.specs.Model.{page, modelLength, threadRow, activityRow};
 ghost use Rattle.records.specs.Rows.{sizesOf, threadRowOf, threadFields, activityRowOf, activityFields};
@@ -82,28 +83,41 @@ fn activity_at(version: u8, threads: u8, a: u8) -> usize
 }
 
 // "Length 10 + 10n + 15m", and 11 + 10n + 16m: where one more activity row would begin.
-pub(crate) fn length(s: &[u8], one: Sizes) -> u32
+pub(crate) fn formula(s: &[u8], one: Sizes) -> u32
     ensures { λ r. ⌜ r ≡ modelLength (field (now (s .entry)) 4 1) (one .threads) (one .activities) ⌝ }
 {
     activity_at(version(s), one.threads, one.activities) as u32
 }
 
-// ---- the rows, each read at once where all of it is there
+// ---- the rows
 
-// The fields of a thread row at a position.
-fn thread_fields(s: &[u8], at: usize) -> ThreadRow
-    requires { ⌜ at ≤ 2561 ⌝ }
+// Where thread row j stands.
+pub(crate) fn thread_place(s: &[u8], j: u8) -> usize
+    ensures { λ r. ⌜ r ≡ threadRow (field (now (s .entry)) 4 1) j ⌝ }
+    ensures most { λ r. ⌜ r ≤ 2561 ⌝ }
+{
+    thread_at(version(s), j)
+}
+
+// A thread row that is all there, read at once.
+pub(crate) fn thread_whole(s: &[u8], at: usize) -> ThreadRow
+    requires { ⌜ at + 10 ≤ length (now s) ⌝ }
     ensures { λ r. ⌜ r ≡ threadFields (now (s .entry)) at ⌝ }
 {
-    if at + 10 <= s.len() {
-        return ThreadRow {
-            least_period: fields::paired(s[at], s[at + 1]),
-            most_period: fields::paired(s[at + 2], s[at + 3]),
-            least_release: fields::paired(s[at + 4], s[at + 5]),
-            most_release: fields::paired(s[at + 6], s[at + 7]),
-            priority: fields::paired(s[at + 8], s[at + 9]),
-        };
+    ThreadRow {
+        least_period: fields::paired(s[at], s[at + 1]),
+        most_period: fields::paired(s[at + 2], s[at + 3]),
+        least_release: fields::paired(s[at + 4], s[at + 5]),
+        most_release: fields::paired(s[at + 6], s[at + 7]),
+        priority: fields::paired(s[at + 8], s[at + 9]),
     }
+}
+
+// Thread row j.
+pub(crate) fn thread_row(s: &[u8], j: u8) -> ThreadRow
+    ensures { λ r. ⌜ r ≡ threadRowOf (page (now (s .entry)) .plain) j ⌝ }
+{
+    let at = thread_place(s, j);
     ThreadRow {
         least_period: fields::be16(s, at),
         most_period: fields::be16(s, at + 2),
@@ -113,29 +127,35 @@ fn thread_fields(s: &[u8], at: usize) -> ThreadRow
     }
 }
 
-// Thread row j.
-pub(crate) fn thread_row(s: &[u8], j: u8) -> ThreadRow
-    ensures { λ r. ⌜ r ≡ threadRowOf (page (now (s .entry)) .plain) j ⌝ }
+// Where activity row a stands.
+pub(crate) fn activity_place(s: &[u8], a: u8) -> usize
+    ensures { λ r. ⌜ r ≡ activityRow (field (now (s .entry)) 4 1) (page (now (s .entry)) .plain .threads) a ⌝ }
+    ensures most { λ r. ⌜ r ≤ 6641 ⌝ }
 {
-    thread_fields(s, thread_at(version(s), j))
+    activity_at(version(s), threads(s), a)
 }
 
-// The fields of an activity row at a position, without its loop byte.
-fn activity_fields(s: &[u8], at: usize) -> ActivityRow
-    requires { ⌜ at ≤ 6641 ⌝ }
+// An activity row that is all there, read at once, without its loop byte.
+pub(crate) fn activity_whole(s: &[u8], at: usize) -> ActivityRow
+    requires { ⌜ at + 15 ≤ length (now s) ⌝ }
     ensures { λ r. ⌜ r ≡ activityFields (now (s .entry)) at ⌝ }
 {
-    if at + 15 <= s.len() {
-        let owner = s[at];
-        return ActivityRow {
-            thread: Thread(owner),
-            least_duration: fields::paired(s[at + 1], s[at + 2]),
-            most_duration: fields::paired(s[at + 3], s[at + 4]),
-            delay: fields::paired(s[at + 5], s[at + 6]),
-            temporal_mask: fields::joined(s[at + 7], s[at + 8], s[at + 9], s[at + 10]),
-            data_mask: fields::joined(s[at + 11], s[at + 12], s[at + 13], s[at + 14]),
-        };
+    let owner = s[at];
+    ActivityRow {
+        thread: Thread(owner),
+        least_duration: fields::paired(s[at + 1], s[at + 2]),
+        most_duration: fields::paired(s[at + 3], s[at + 4]),
+        delay: fields::paired(s[at + 5], s[at + 6]),
+        temporal_mask: fields::joined(s[at + 7], s[at + 8], s[at + 9], s[at + 10]),
+        data_mask: fields::joined(s[at + 11], s[at + 12], s[at + 13], s[at + 14]),
     }
+}
+
+// Activity row a, without its loop byte.
+pub(crate) fn activity_row(s: &[u8], a: u8) -> ActivityRow
+    ensures { λ r. ⌜ r ≡ activityRowOf (page (now (s .entry)) .plain) a ⌝ }
+{
+    let at = activity_place(s, a);
     let owner = fields::byte(s, at);
     ActivityRow {
         thread: Thread(owner),
@@ -147,21 +167,13 @@ fn activity_fields(s: &[u8], at: usize) -> ActivityRow
     }
 }
 
-// Activity row a, without its loop byte.
-pub(crate) fn activity_row(s: &[u8], a: u8) -> ActivityRow
-    ensures { λ r. ⌜ r ≡ activityRowOf (page (now (s .entry)) .plain) a ⌝ }
-{
-    activity_fields(s, activity_at(version(s), threads(s), a))
-}
-
 // Its loop byte: version 1 has none.
 pub(crate) fn loop_byte(s: &[u8], a: u8) -> u8
     ensures { λ r. ⌜ r ≡ page (now (s .entry)) .loop a ⌝ }
 {
-    let version = version(s);
-    if version == 1 {
+    if version(s) == 1 {
         unroll::NO_LOOP
     } else {
-        fields::byte(s, activity_at(version, threads(s), a) + 15)
+        fields::byte(s, activity_place(s, a) + 15)
     }
 }

@@ -64,7 +64,14 @@ pub(crate) fn head(s: &[u8]) -> Pass
         counts: FormRefusal::ModelLimits,
         formula: FormRefusal::ModelFormula,
     };
-    let first = form::head(s, names, 10, NEWEST, limits_hold(one), page::length(s, one));
+    let first = form::head(
+        s,
+        names,
+        10,
+        NEWEST,
+        limits_hold(one),
+        page::formula(s, one),
+    );
     if let Pass::Refused(_) = first {
         return first;
     }

@@ -7,7 +7,7 @@ use std::hint::black_box;
 use std::process::ExitCode;
 use std::time::{Duration, Instant};
 
-use grid_tests::records::{ActivityRow, Choice, Model, ThreadRow};
+use grid_tests::records::{ActivityRow, Choice, Model, Rounds, ThreadRow};
 use grid_tests::{proved, reference, Answer};
 
 /// A page with its records; the plan is the run's own, so that all four calls accept.
@@ -127,6 +127,8 @@ const PAGES: &[(&str, usize)] = &[
     ("chain", 4096),
     ("free", 4096),
     ("single", 4096),
+    ("rounds", 4096),
+    ("unrolled", 4096),
     ("middle", 1024),
     ("middle", 256),
     ("small", 64),
@@ -138,6 +140,15 @@ const GROWING: &str = "waiting";
 const HORIZONS: [usize; 4] = [512, 1024, 2048, 4096];
 
 fn page(name: &str, horizon: usize) -> Page {
+    let (model, choice) = four_rounds(horizon);
+    match name {
+        "rounds" => written(&model, &choice),
+        "unrolled" => written(&model.unrolled(), &choice),
+        _ => shaped(name, horizon),
+    }
+}
+
+fn shaped(name: &str, horizon: usize) -> Page {
     let shape = SHAPES.iter().find(|shape| shape.name == name).expect("no page of that name");
     let durations: Vec<u16> = (0..shape.activities).map(|a| (shape.duration)(a, horizon) as u16).collect();
     let threads = (0..shape.threads)
@@ -153,7 +164,28 @@ fn page(name: &str, horizon: usize) -> Page {
         })
         .collect();
     let model = Model { cores: shape.cores, horizon: horizon as u16, threads, activities, rounds: None };
-    let choice = Choice { threads: vec![(0, horizon as u16); shape.threads.into()], durations };
+    written(&model, &Choice { threads: vec![(0, horizon as u16); shape.threads.into()], durations })
+}
+
+/// Four rounds of 2 threads and 8 activities, each after itself in the round before; the period is a quarter of the horizon.
+fn four_rounds(horizon: usize) -> (Model, Choice) {
+    let period = horizon as u16 / 4;
+    let thread = ThreadRow { period: (period, period), release: (0, 0), priority: 1 };
+    let activity =
+        |a| ActivityRow { thread: a % 2, duration: (1, 65535), delay: 0, temporal: below(a) & 1, data: below(a) & 2 };
+    let model = Model {
+        cores: 8,
+        horizon: horizon as u16,
+        threads: vec![thread; 2],
+        activities: (0..8).map(activity).collect(),
+        rounds: Some(Rounds { count: 4, loops: (0..8).collect() }),
+    };
+    let chosen = (0..8).map(|j| (j / 2 * period, period)).collect();
+    (model, Choice { threads: chosen, durations: vec![period / 4; 32] })
+}
+
+/// A page's records, with the plan that the run writes.
+fn written(model: &Model, choice: &Choice) -> Page {
     let mut plan = vec![0; model.plan_length()];
     let (model, choice) = (model.bytes(), choice.bytes());
     reference::run(&model, &choice, &mut plan).expect("the run of a page must succeed");
@@ -236,6 +268,8 @@ fn table() {
         let (cores, threads, activities) = (shape.cores, shape.threads, shape.activities);
         println!("{}: {}; cores {cores}, threads {threads}, activities {activities}", shape.name, shape.what);
     }
+    println!("rounds: 4 rounds of 8 activities, each after itself in the round before; cores 8, threads 2, activities 8 a round");
+    println!("unrolled: the version 1 record of the same model");
 }
 
 /// One call, many times.
@@ -247,7 +281,7 @@ fn repeat(words: &[String]) -> Option<()> {
     let times: u32 = times.parse().ok()?;
     let known = CALLS.contains(&name.as_str())
         && SIDES.contains(&which.as_str())
-        && SHAPES.iter().any(|shape| shape.name == page_name)
+        && PAGES.iter().any(|&(page, _)| page == page_name)
         && (8..=4096).contains(&horizon);
     if !known {
         return None;

@@ -1,38 +1,75 @@
--- `model::page::activity_row` meets its contract: the fields at the row's place.
+-- `model::page::activity_row` meets its contract: the fields read are those of the definition.
 -- Assumes nothing.
 use Rattle.schedule.specs.Model.{page}
-use Rattle.records.specs.Rows.{activityRowOf, activityFields}
+use Rattle.records.specs.Rows.{activityRowOf}
 use borrow.Author.Needs.{needs}
 use Rattle.records.proofs.model.page.activity_row.Statement.{statement}
 use Rattle.records.proofs.model.page.activity_row.Tie as tie
 
-version-requires : tie.Need-version-requires
-version-requires c κs = search needs
+activity-place-requires : tie.Need-activity-place-requires
+activity-place-requires c κs = search needs
 
-threads-requires : tie.Need-threads-requires
-threads-requires c κs = search needs
+byte-requires : tie.Need-byte-requires
+byte-requires c κs = search needs
 
-activity-at-requires : tie.Need-activity-at-requires
-activity-at-requires c κs = search needs
+add-be16 : tie.Need-add-be16
+add-be16 c = search needs
 
-activity-fields-requires : tie.Need-activity-fields-requires
-activity-fields-requires c κs = search needs
+be16-requires : tie.Need-be16-requires
+be16-requires c κs = search needs
+
+add-be16-2 : tie.Need-add-be16-2
+add-be16-2 c = search needs
+
+be16-requires-2 : tie.Need-be16-requires-2
+be16-requires-2 c κs = search needs
+
+add-be16-3 : tie.Need-add-be16-3
+add-be16-3 c = search needs
+
+be16-requires-3 : tie.Need-be16-requires-3
+be16-requires-3 c κs = search needs
+
+add-be32 : tie.Need-add-be32
+add-be32 c = search needs
+
+be32-requires : tie.Need-be32-requires
+be32-requires c κs = search needs
+
+add-be32-2 : tie.Need-add-be32-2
+add-be32-2 c = search needs
+
+be32-requires-2 : tie.Need-be32-requires-2
+be32-requires-2 c κs = search needs
 
 returns : tie.Need-returns
-unfolding activityRowOf activityFields page
+unfolding activityRowOf page
 returns c =
+    let c3 = c .before .before .before in
     rw (
-      ← c .before .before .before .version .ensures,
-      ← c .before .before .threads .ensures,
-      ← c .before .activity-at .ensures .0,
-    ) (c .activity-fields .ensures)
+      ← c3 .before .before .before .activity-place .ensures .0,
+      ← c3 .before .before .byte .ensures,
+      ← c3 .before .be16 .ensures,
+      ← c3 .be162 .ensures,
+      ← c .before .before .be163 .ensures,
+      ← c .before .be32 .ensures,
+      ← c .be322 .ensures,
+    )
 
 pub activity-row-spec : {M : Type 1} → statement M
 activity-row-spec =
     tie.close
     (tie.spec
-    version-requires
-    threads-requires
-    activity-at-requires
-    activity-fields-requires
+    activity-place-requires
+    byte-requires
+    add-be16
+    be16-requires
+    add-be16-2
+    be16-requires-2
+    add-be16-3
+    be16-requires-3
+    add-be32
+    be32-requires
+    add-be32-2
+    be32-requires-2
     returns)

@@ -9,11 +9,8 @@ use Rattle.records.proofs.model.page.loop_byte.Tie as tie
 version-requires : tie.Need-version-requires
 version-requires c κs = search needs
 
-threads-requires : tie.Need-threads-requires
-threads-requires c κs = search needs
-
-activity-at-requires : tie.Need-activity-at-requires
-activity-at-requires c κs = search needs
+activity-place-requires : tie.Need-activity-place-requires
+activity-place-requires c κs = search needs
 
 add-byte : tie.Need-add-byte
 add-byte c = search needs
@@ -28,22 +25,13 @@ returns c = rw (← c .before .version .ensures, eq-eqb _ _ (c .if1 .taken))
 returns-2 : tie.Need-returns-2
 unfolding page
 returns-2 c =
-    let c3 = c .before .before .before in
     rw (
-      ← c3 .before .version .ensures,
-      ← c .before .before .threads .ensures,
-      ← c .before .activity-at .ensures .0,
-      ne-eqb _ _ (c3 .if1 .left),
+      ← c .before .activity-place .ensures .0,
+      ← c .before .before .before .version .ensures,
+      ne-eqb _ _ (c .before .before .if1 .left),
     ) (c .byte .ensures)
 
 pub loop-byte-spec : {M : Type 1} → statement M
 loop-byte-spec =
     tie.close
-    (tie.spec
-    version-requires
-    threads-requires
-    activity-at-requires
-    add-byte
-    byte-requires
-    returns
-    returns-2)
+    (tie.spec version-requires activity-place-requires add-byte byte-requires returns returns-2)

@@ -16,8 +16,8 @@ counts-requires c κs = search needs
 limits-hold-requires : tie.Need-limits-hold-requires
 limits-hold-requires c κs = search needs
 
-length-requires : tie.Need-length-requires
-length-requires c κs = search needs
+formula-requires : tie.Need-formula-requires
+formula-requires c κs = search needs
 
 head-requires : tie.Need-head-requires
 head-requires c κs = search needs
@@ -29,7 +29,7 @@ returns : tie.Need-returns
 returns c =
     let c2 = c .before .before in
     let c4 = c2 .before .before in
-    let form = model-head _ _ _ _ (c4 .before .counts .ensures) (c4 .limits-hold .ensures) (c2 .before .length .ensures) in
+    let form = model-head _ _ _ _ (c4 .before .counts .ensures) (c4 .limits-hold .ensures) (c2 .before .formula .ensures) in
     let told = c .enum-told .given .1 in
     ap passNumbers told ∙ pass-refused _ _ _ _ form (c2 .head .ensures) _ told
 
@@ -50,7 +50,7 @@ returns-2 c =
     let c5 = c .before .before .before .before .before in
     let c7 = c5 .before .before in
     let one = c7 .before .counts .ensures in
-    let form = model-head _ _ _ _ one (c7 .limits-hold .ensures) (c5 .before .length .ensures) in
+    let form = model-head _ _ _ _ one (c7 .limits-hold .ensures) (c5 .before .formula .ensures) in
     let rounds = rounds-told _ _ _ _ one (c .before .before .rounds .ensures) (c .before .rounds-hold .ensures) in
     sym
     (pass-holds _ _ _ _ form (c5 .head .ensures) (c .before .before .before .enum-told2 .given .1)
@@ -62,7 +62,7 @@ returns-3 c =
     let c6 = c .before .before .before .before .before .before in
     let c8 = c6 .before .before in
     let one = c8 .before .counts .ensures in
-    let form = model-head _ _ _ _ one (c8 .limits-hold .ensures) (c6 .before .length .ensures) in
+    let form = model-head _ _ _ _ one (c8 .limits-hold .ensures) (c6 .before .formula .ensures) in
     let rounds = rounds-told _ _ _ _ one (c .before .before .before .rounds .ensures) (c .before .before .rounds-hold .ensures) in
     c .refused .ensures
     ∙ sym
@@ -76,7 +76,7 @@ head-spec =
     (tie.spec
     counts-requires
     limits-hold-requires
-    length-requires
+    formula-requires
     head-requires
     enum-told
     returns

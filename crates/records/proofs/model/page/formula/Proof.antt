@@ -1,8 +1,8 @@
--- `model::page::length` meets its contract: where one more row would begin.
+-- `model::page::formula` meets its contract: where one more row would begin.
 -- Assumes nothing.
 use borrow.Author.Needs.{needs}
-use Rattle.records.proofs.model.page.length.Statement.{statement}
-use Rattle.records.proofs.model.page.length.Tie as tie
+use Rattle.records.proofs.model.page.formula.Statement.{statement}
+use Rattle.records.proofs.model.page.formula.Tie as tie
 
 version-requires : tie.Need-version-requires
 version-requires c κs = search needs
@@ -16,5 +16,5 @@ cast-result c = search needs
 returns : tie.Need-returns
 returns c = rw (← c .before .version .ensures) (c .activity-at .ensures .0)
 
-pub length-spec : {M : Type 1} → statement M
-length-spec = tie.close (tie.spec version-requires activity-at-requires cast-result returns)
+pub formula-spec : {M : Type 1} → statement M
+formula-spec = tie.close (tie.spec version-requires activity-at-requires cast-result returns)

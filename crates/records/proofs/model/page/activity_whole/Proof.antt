@@ -1,14 +1,10 @@
--- `model::page::activity_fields` meets its contract: the bytes read at once, or field by field, are those of the definition.
+-- `model::page::activity_whole` meets its contract: the bytes read at once are the fields.
 -- Assumes nothing.
 use mathlib.Core.Path.{refl}
-use Rattle.records.specs.Rows.{activityFields}
 use Rattle.records.proofs.RowFields.{activity-read}
 use borrow.Author.Needs.{needs}
-use Rattle.records.proofs.model.page.activity_fields.Statement.{statement}
-use Rattle.records.proofs.model.page.activity_fields.Tie as tie
-
-add-if1 : tie.Need-add-if1
-add-if1 c = search needs
+use Rattle.records.proofs.model.page.activity_whole.Statement.{statement}
+use Rattle.records.proofs.model.page.activity_whole.Tie as tie
 
 shared-slice-read-owner : tie.Need-shared-slice-read-owner
 shared-slice-read-owner c = search needs
@@ -120,57 +116,10 @@ returns c =
     activity-read _ _ _ _ _ _ _ _ refl (c13 .before .before .before .paired .ensures) (c13 .paired2 .ensures)
     (c10 .paired3 .ensures) (c5 .joined .ensures) (c .joined2 .ensures)
 
-byte-requires : tie.Need-byte-requires
-byte-requires c κs = search needs
-
-add-be16 : tie.Need-add-be16
-add-be16 c = search needs
-
-be16-requires : tie.Need-be16-requires
-be16-requires c κs = search needs
-
-add-be16-2 : tie.Need-add-be16-2
-add-be16-2 c = search needs
-
-be16-requires-2 : tie.Need-be16-requires-2
-be16-requires-2 c κs = search needs
-
-add-be16-3 : tie.Need-add-be16-3
-add-be16-3 c = search needs
-
-be16-requires-3 : tie.Need-be16-requires-3
-be16-requires-3 c κs = search needs
-
-add-be32 : tie.Need-add-be32
-add-be32 c = search needs
-
-be32-requires : tie.Need-be32-requires
-be32-requires c κs = search needs
-
-add-be32-2 : tie.Need-add-be32-2
-add-be32-2 c = search needs
-
-be32-requires-2 : tie.Need-be32-requires-2
-be32-requires-2 c κs = search needs
-
-returns-2 : tie.Need-returns-2
-unfolding activityFields
-returns-2 c =
-    let c3 = c .before .before .before in
-    rw (
-      ← c3 .before .before .byte .ensures,
-      ← c3 .before .be16 .ensures,
-      ← c3 .be162 .ensures,
-      ← c .before .before .be163 .ensures,
-      ← c .before .be32 .ensures,
-      ← c .be322 .ensures,
-    )
-
-pub activity-fields-spec : {M : Type 1} → statement M
-activity-fields-spec =
+pub activity-whole-spec : {M : Type 1} → statement M
+activity-whole-spec =
     tie.close
     (tie.spec
-    add-if1
     shared-slice-read-owner
     add-paired
     shared-slice-read-paired
@@ -205,16 +154,4 @@ activity-fields-spec =
     add-joined-8
     shared-slice-read-joined-8
     joined-requires-2
-    returns
-    byte-requires
-    add-be16
-    be16-requires
-    add-be16-2
-    be16-requires-2
-    add-be16-3
-    be16-requires-3
-    add-be32
-    be32-requires
-    add-be32-2
-    be32-requires-2
-    returns-2)
+    returns)
