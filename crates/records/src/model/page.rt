@@ -156,6 +156,9 @@ pub(crate) fn activity_row(s: &[u8], a: u8) -> ActivityRow
     ensures { λ r. ⌜ r ≡ activityRowOf (page (now (s .entry)) .plain) a ⌝ }
 {
     let at = activity_place(s, a);
+    if at + 15 <= s.len() {
+        return activity_whole(s, at);
+    }
     let owner = fields::byte(s, at);
     ActivityRow {
         thread: Thread(owner),

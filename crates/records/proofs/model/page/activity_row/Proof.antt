@@ -1,13 +1,23 @@
--- `model::page::activity_row` meets its contract: the fields read are those of the definition.
+-- `model::page::activity_row` meets its contract: the bytes read at once, or field by field, are those of the definition.
 -- Assumes nothing.
 use Rattle.schedule.specs.Model.{page}
-use Rattle.records.specs.Rows.{activityRowOf}
+use Rattle.records.specs.Rows.{activityRowOf, activityFields}
 use borrow.Author.Needs.{needs}
 use Rattle.records.proofs.model.page.activity_row.Statement.{statement}
 use Rattle.records.proofs.model.page.activity_row.Tie as tie
 
 activity-place-requires : tie.Need-activity-place-requires
 activity-place-requires c κs = search needs
+
+add-if1 : tie.Need-add-if1
+add-if1 c = search needs
+
+activity-whole-requires : tie.Need-activity-whole-requires
+activity-whole-requires c κs = search needs
+
+returns : tie.Need-returns
+unfolding activityRowOf activityFields page
+returns c = rw (← c .before .before .activity-place .ensures .0) (c .activity-whole .ensures)
 
 byte-requires : tie.Need-byte-requires
 byte-requires c κs = search needs
@@ -42,12 +52,12 @@ add-be32-2 c = search needs
 be32-requires-2 : tie.Need-be32-requires-2
 be32-requires-2 c κs = search needs
 
-returns : tie.Need-returns
+returns-2 : tie.Need-returns-2
 unfolding activityRowOf page
-returns c =
+returns-2 c =
     let c3 = c .before .before .before in
     rw (
-      ← c3 .before .before .before .activity-place .ensures .0,
+      ← c3 .before .before .before .before .activity-place .ensures .0,
       ← c3 .before .before .byte .ensures,
       ← c3 .before .be16 .ensures,
       ← c3 .be162 .ensures,
@@ -61,6 +71,9 @@ activity-row-spec =
     tie.close
     (tie.spec
     activity-place-requires
+    add-if1
+    activity-whole-requires
+    returns
     byte-requires
     add-be16
     be16-requires
@@ -72,4 +85,4 @@ activity-row-spec =
     be32-requires
     add-be32-2
     be32-requires-2
-    returns)
+    returns-2)
