@@ -91,8 +91,8 @@ fn moved_thread(row: ThreadRow, k: u8) -> ThreadRow
     }
 }
 
-// Thread row j, of any bytes; zeros where there is none.
-fn any_thread(s: &[u8], j: u8, n: u8) -> ThreadRow
+// Thread row j by its round, where each has n threads; zeros where there is none.
+fn thread_by_round(s: &[u8], j: u8, n: u8) -> ThreadRow
     requires { ⌜ n ≡ page (now s) .plain .threads ⌝ }
     ensures { λ r. ⌜ r ≡ threadRowOf (model (now (s .entry))) j ⌝ }
 {
@@ -109,7 +109,7 @@ fn any_thread(s: &[u8], j: u8, n: u8) -> ThreadRow
     moved_thread(row, unroll::round(j, n))
 }
 
-// The same; a row of round 0 that is all there is read at once.
+// Thread row j, of any bytes; zeros where there is none. A row of round 0 that is all there is read at once.
 pub fn thread_row(s: &[u8], j: Thread) -> ThreadRow
     ensures { λ r. ⌜ r ≡ threadRowOf (model (now (s .entry))) (j .0) ⌝ }
 {
@@ -123,7 +123,7 @@ pub fn thread_row(s: &[u8], j: Thread) -> ThreadRow
             }
         }
     }
-    any_thread(s, number, n)
+    thread_by_round(s, number, n)
 }
 
 // An activity's row in round k of n threads and m activities each, with its loop byte q: its thread is that of the round, and
@@ -143,8 +143,8 @@ fn moved_activity(row: ActivityRow, n: u8, m: u8, k: u8, q: u8) -> ActivityRow
     }
 }
 
-// Activity row a, of any bytes; zeros where there is none.
-fn any_activity(s: &[u8], a: u8, m: u8) -> ActivityRow
+// Activity row a by its round, where each has m activities; zeros where there is none.
+fn activity_by_round(s: &[u8], a: u8, m: u8) -> ActivityRow
     requires { ⌜ m ≡ page (now s) .plain .activities ⌝ }
     ensures { λ r. ⌜ r ≡ activityRowOf (model (now (s .entry))) a ⌝ }
 {
@@ -164,7 +164,7 @@ fn any_activity(s: &[u8], a: u8, m: u8) -> ActivityRow
     moved_activity(page::activity_row(s, place), page::threads(s), m, k, q)
 }
 
-// The same; a row of round 0 that is all there is read at once.
+// Activity row a, of any bytes; zeros where there is none. A row of round 0 that is all there is read at once.
 pub fn activity_row(s: &[u8], a: Activity) -> ActivityRow
     ensures { λ r. ⌜ r ≡ activityRowOf (model (now (s .entry))) (a .0) ⌝ }
 {
@@ -178,7 +178,7 @@ pub fn activity_row(s: &[u8], a: Activity) -> ActivityRow
             }
         }
     }
-    any_activity(s, number, m)
+    activity_by_round(s, number, m)
 }
 
 // ---- rule 12, of a choice or a plan

@@ -1,4 +1,4 @@
--- `model::activity_row` meets its contract: a row of round 0 read at its place, or any row.
+-- `model::activity_row` meets its contract: a row of round 0 read at its place, or any row by its round.
 -- Assumes nothing.
 use Rattle.records.proofs.UnrolledRows.{activity-first}
 use borrow.Author.Needs.{needs}
@@ -31,11 +31,11 @@ returns c =
     (λ i l. c8 .shared-slice-known .given i .fits) _ _ _ (c .before .before .before .if2 .taken)
     (c4 .before .before .if1 .taken) (c .before .before .activity-place .ensures .0) (c .activity-whole .ensures)
 
-any-activity-requires : tie.Need-any-activity-requires
-any-activity-requires c κs = search needs
+activity-by-round-requires : tie.Need-activity-by-round-requires
+activity-by-round-requires c κs = search needs
 
 returns-2 : tie.Need-returns-2
-returns-2 c = c .any-activity .ensures
+returns-2 c = c .activity-by-round .ensures
 
 pub activity-row-spec : {M : Type 1} → statement M
 activity-row-spec =
@@ -48,5 +48,5 @@ activity-row-spec =
     add-if3
     activity-whole-requires
     returns
-    any-activity-requires
+    activity-by-round-requires
     returns-2)

@@ -1,4 +1,4 @@
--- `model::thread_row` meets its contract: a row of round 0 read at its place, or any row.
+-- `model::thread_row` meets its contract: a row of round 0 read at its place, or any row by its round.
 -- Assumes nothing.
 use Rattle.records.proofs.UnrolledRows.{thread-first}
 use borrow.Author.Needs.{needs}
@@ -31,11 +31,11 @@ returns c =
     (λ i l. c8 .shared-slice-known .given i .fits) _ _ _ (c .before .before .before .if2 .taken)
     (c4 .before .before .if1 .taken) (c .before .before .thread-place .ensures .0) (c .thread-whole .ensures)
 
-any-thread-requires : tie.Need-any-thread-requires
-any-thread-requires c κs = search needs
+thread-by-round-requires : tie.Need-thread-by-round-requires
+thread-by-round-requires c κs = search needs
 
 returns-2 : tie.Need-returns-2
-returns-2 c = c .any-thread .ensures
+returns-2 c = c .thread-by-round .ensures
 
 pub thread-row-spec : {M : Type 1} → statement M
 thread-row-spec =
@@ -48,5 +48,5 @@ thread-row-spec =
     add-if3
     thread-whole-requires
     returns
-    any-thread-requires
+    thread-by-round-requires
     returns-2)

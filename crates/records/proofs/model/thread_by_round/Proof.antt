@@ -1,9 +1,9 @@
--- `model::any_thread` meets its contract: zeros, or a row of the page moved on to its round.
+-- `model::thread_by_round` meets its contract: zeros, or a row of the page moved on to its round.
 -- Assumes nothing.
 use Rattle.records.proofs.UnrolledRows.{thread-past, thread-here}
 use borrow.Author.Needs.{needs}
-use Rattle.records.proofs.model.any_thread.Statement.{statement}
-use Rattle.records.proofs.model.any_thread.Tie as tie
+use Rattle.records.proofs.model.thread_by_round.Statement.{statement}
+use Rattle.records.proofs.model.thread_by_round.Tie as tie
 
 rounds-requires : tie.Need-rounds-requires
 rounds-requires c κs = search needs
@@ -34,8 +34,8 @@ returns-2 c =
     (c3 .before .if1 .left) (c .before .round .ensures) (c3 .place .ensures) (c .before .before .thread-row .ensures)
     (c .moved-thread .ensures)
 
-pub any-thread-spec : {M : Type 1} → statement M
-any-thread-spec =
+pub thread-by-round-spec : {M : Type 1} → statement M
+thread-by-round-spec =
     tie.close
     (tie.spec
     rounds-requires

@@ -1,9 +1,9 @@
--- `model::any_activity` meets its contract: zeros, or a row of the page moved on to its round.
+-- `model::activity_by_round` meets its contract: zeros, or a row of the page moved on to its round.
 -- Assumes nothing.
 use Rattle.records.proofs.UnrolledRows.{activity-past, activity-here}
 use borrow.Author.Needs.{needs}
-use Rattle.records.proofs.model.any_activity.Statement.{statement}
-use Rattle.records.proofs.model.any_activity.Tie as tie
+use Rattle.records.proofs.model.activity_by_round.Statement.{statement}
+use Rattle.records.proofs.model.activity_by_round.Tie as tie
 
 rounds-requires : tie.Need-rounds-requires
 rounds-requires c κs = search needs
@@ -41,8 +41,8 @@ returns-2 c =
     (c .before .before .activity-row .ensures) (c .before .before .before .loop-byte .ensures) (c .before .threads .ensures)
     (c .moved-activity .ensures)
 
-pub any-activity-spec : {M : Type 1} → statement M
-any-activity-spec =
+pub activity-by-round-spec : {M : Type 1} → statement M
+activity-by-round-spec =
     tie.close
     (tie.spec
     rounds-requires
