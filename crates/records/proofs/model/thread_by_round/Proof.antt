@@ -12,7 +12,9 @@ in-all-requires : tie.Need-in-all-requires
 in-all-requires c κs = search needs
 
 returns : tie.Need-returns
-returns c = thread-past _ _ _ _ (c .before .before .rounds .ensures) (c .before .in-all .ensures) (c .before .before .before .before .pre) _ (c .if1 .taken)
+returns c =
+    thread-past _ _ _ _ (c .before .before .rounds .ensures) (c .before .in-all .ensures) (c .before .before .before .before .pre) _
+    (c .if1 .taken)
 
 place-requires : tie.Need-place-requires
 place-requires c κs = search needs

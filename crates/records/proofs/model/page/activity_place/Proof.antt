@@ -14,7 +14,10 @@ activity-at-requires : tie.Need-activity-at-requires
 activity-at-requires c κs = search needs
 
 returns : tie.Need-returns
-returns c = (rw (← c .before .before .version .ensures, ← c .before .threads .ensures) (c .activity-at .ensures .0), c .activity-at .ensures .1)
+returns c = (
+  rw (← c .before .before .version .ensures, ← c .before .threads .ensures) (c .activity-at .ensures .0),
+  c .activity-at .ensures .1,
+)
 
 pub activity-place-spec : {M : Type 1} → statement M
 activity-place-spec =
