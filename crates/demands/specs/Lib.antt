@@ -6,3 +6,4 @@ pub mod Deadline
 pub mod Rule24
 pub mod Urgent
 pub mod Rounds
+pub mod Exchange

@@ -15,7 +15,7 @@ use Rattle.laws.proofs.Tests.{below-suc, up-to}
 
 infixr 4 _&_
 -- the first of two that is something
-abbrev orElse {ℓ} : {A : Type ℓ} → Option A → Option A → Option A
+abbrev pub orElse {ℓ} : {A : Type ℓ} → Option A → Option A → Option A
 orElse o p = elim o [ some x ↦ some x | none ↦ p ]
 
 orElse-none {ℓ} : {A : Type ℓ} (o p : Option A) → (orElse o p ≡ none) ↔ ((o ≡ none) × (p ≡ none))

@@ -31,5 +31,7 @@ pub mod Named
 pub mod LinesLaws
 pub mod LineLengths
 pub mod RowLaws
+pub mod WrappedLaws
+pub mod FileRecords
 pub mod Unrolled
 pub mod Formed

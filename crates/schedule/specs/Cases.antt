@@ -20,6 +20,7 @@ use Rattle.schedule.specs.Opened
 use Rattle.schedule.specs.Answers
 use Rattle.schedule.specs.Report
 use Rattle.schedule.specs.Streams
+use Rattle.schedule.specs.Exchange
 use Rattle.schedule.specs.Lines
 use Rattle.schedule.specs.Bounded.{table}
 use Rattle.schedule.specs.Model.{model}
@@ -30,6 +31,7 @@ use Rattle.schedule.specs.Checks.{efe}
 use Rattle.schedule.specs.Answers.{Answer, accepted, refused, Figures, Written}
 use Rattle.schedule.specs.Answers.{plainVerdict, strictVerdict, machinePlan, lengthNeeded, runAnswer, runBuffer}
 use Rattle.schedule.specs.Report.{reportAnswer, reportRows}
+use Rattle.schedule.specs.Exchange.{Part, pairPart, pairBytes, fileAnswer, fileBytes}
 use Rattle.schedule.specs.Lines.{runRoom}
 
 -- bytes with others in place from a position on
@@ -45,7 +47,8 @@ refuses number a b = refused (record { number = number; A = a; B = b })
 
 -- What is asked: the version 1 record of the model that some bytes say; both checks of a model's and a plan's bytes, or the
 -- plan's efes; the run of a model's and a choice's bytes, or the machine's words, starts or ends, or the bytes that it writes
--- into a buffer of the plan's length; the report of a model's and a choice's bytes with a lent list.
+-- into a buffer of the plan's length; the report of a model's and a choice's bytes with a lent list; which of two wrapped
+-- records stands; which record of a file is chosen.
 pub data Question : Type 0 where
   unrolls : List ℕ → Question
   check : List ℕ → List ℕ → Question
@@ -56,13 +59,17 @@ pub data Question : Type 0 where
   ends : List ℕ → List ℕ → Question
   writes : List ℕ → List ℕ → Question
   report : List ℕ → List ℕ → List ℤ → Question
+  pair : List ℕ → List ℕ → Question
+  file : List ℕ → Question
 
--- What is said: the plain and the strict verdict, the run's, numbers in order, or the report's answer and the list after it.
+-- What is said: the plain and the strict verdict, the run's, numbers in order, the report's answer and the list after it, or
+-- the part of a wrapped record and the bytes handed back.
 pub data Saying : Type 0 where
   verdicts : Answer Figures → Answer Figures → Saying
   verdict : Answer Figures → Saying
   numbers : List ℕ → Saying
   reports : Answer Written → List ℤ → Saying
+  parts : Answer Part → List ℕ → Saying
 
 -- the run's verdict without the plan's length, as gridrun prints it
 unfoldable pub printed : Answer Written → Answer Figures
@@ -80,6 +87,8 @@ said (starts s q) = numbers (table (model s .activities) (machinePlan (model s) 
 said (ends s q) = numbers (table (model s .activities) (machinePlan (model s) (choice q) .end))
 said (writes s q) = numbers (runBuffer s q (replicate (lengthNeeded (model s)) 255))
 said (report s q list) = reports (reportAnswer s q (length list)) (reportRows s q list)
+said (pair x y) = parts (pairPart x y) (pairBytes x y)
+said (file f) = parts (fileAnswer f) (fileBytes f)
 
 pub record Case : Type 0 where
   pub asked : Question
@@ -107,6 +116,9 @@ unfolding Bounded.all Bounded.count Bounded.total Bounded.greatest Bounded.least
     Answers.outcome Answers.runOutcome Answers.answerOf Answers.runAnswer Answers.bufferAfter Answers.runBuffer
     Report.reportRow Report.rowsRule Report.reportRules Report.reportAnswer Report.rowsAfter Report.reportRows
     Streams.taken Streams.splits Streams.firstRecord Streams.secondRecord Streams.viewRefusal Streams.viewWord
+    Exchange.flagRule Exchange.wrapperForm Exchange.wrapperRule Exchange.seriesRule Exchange.same Exchange.copyRule
+    Exchange.outranks Exchange.along Exchange.standing Exchange.handedBack Exchange.placed Exchange.pairBytes Exchange.pairPart
+    Exchange.recordEnd Exchange.cutInto Exchange.recordsOf Exchange.fileAnswer Exchange.fileBytes
     Lines.digits Lines.decimal Lines.hexDigit Lines.hex Lines.three Lines.shown Lines.checkLines Lines.tickLine
     Lines.runLines Lines.signed Lines.rowText Lines.lateLine Lines.lateLines Lines.gridcheck Lines.gridrun Lines.gridlate
     printed said

@@ -17,6 +17,7 @@ pub mod Opened
 pub mod Answers
 pub mod Report
 pub mod Streams
+pub mod Exchange
 pub mod Lines
 pub mod Numbers
 pub mod Cases
@@ -27,3 +28,4 @@ pub mod Deadlines
 pub mod Listing
 pub mod Pages
 pub mod PageForms
+pub mod Wrapped

@@ -15,10 +15,15 @@ use Rattle.schedule.specs.declared.Verdict.{Verdict}
 use Rattle.schedule.specs.declared.Written.{Written}
 use Rattle.schedule.specs.declared.RunVerdict.{RunVerdict}
 use Rattle.schedule.specs.declared.WordAt.{WordAt}
+use Rattle.schedule.specs.declared.WrapRefusal.{WrapRefusal}
+use Rattle.schedule.specs.declared.Standing.{Standing}
+use Rattle.schedule.specs.declared.Part.{Part}
+use Rattle.schedule.specs.declared.Chosen.{Chosen}
 use Rattle.schedule.specs.Rule
 use Rattle.schedule.specs.Answers
 use Rattle.schedule.specs.Answers.{Answer, accepted, refused}
 use Rattle.schedule.specs.Streams.{WordOrPast, word, past}
+use Rattle.schedule.specs.Exchange
 
 abbrev pub formNumber : FormRefusal → ℕ
 formNumber FormRefusal.ModelSize = 1
@@ -86,3 +91,26 @@ runNumbers (RunVerdict.Refused x) = refused (refusalNumbers x)
 abbrev pub wordNumbers : WordAt → WordOrPast
 wordNumbers (WordAt.Word w) = word w
 wordNumbers WordAt.Past = past
+
+abbrev pub wrapNumber : WrapRefusal → ℕ
+wrapNumber WrapRefusal.Wrapper = 54
+wrapNumber WrapRefusal.Series = 55
+wrapNumber WrapRefusal.Copy = 56
+
+-- "A the record tried, from 0"
+abbrev pub wrapNumbers : WrapRefusal → ℕ → Rule.Refusal
+wrapNumbers why k = record { number = wrapNumber why; A = k; B = 0 }
+
+-- which of two wrapped records stands, 0 for the first and 1 for the second
+abbrev pub standingNumbers : Standing → Answer ℕ
+standingNumbers Standing.First = accepted 0
+standingNumbers Standing.Second = accepted 1
+standingNumbers (Standing.Refused why k) = refused (wrapNumbers why k)
+
+abbrev pub partNumbers : Part → Exchange.Part
+partNumbers x = record { index = x .index; offset = x .offset; length = x .length }
+
+-- which record of a file is chosen
+abbrev pub chosenNumbers : Chosen → Answer Exchange.Part
+chosenNumbers (Chosen.Record x) = accepted (partNumbers x)
+chosenNumbers (Chosen.Refused why k) = refused (wrapNumbers why k)

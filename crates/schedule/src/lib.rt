@@ -140,3 +140,33 @@ pub enum WordAt {
     Word(u32),
     Past,
 }
+
+// Refusals 54 to 56, of wrapped records (02).
+pub enum WrapRefusal {
+    // 54 "for an empty file, or a wrapper whose length .., version or flag is wrong or whose model is refused"
+    Wrapper,
+    // 55 "for two series"
+    Series,
+    // 56 "for equal series, issue and flag with other bytes"
+    Copy,
+}
+
+// Which of two wrapped records stands; a refusal has A, the record tried, from 0.
+pub enum Standing {
+    First,
+    Second,
+    Refused(WrapRefusal, usize),
+}
+
+// A record as a part of the caller's bytes: its number, from 0, where its first byte stands, and how many bytes it has.
+pub struct Part {
+    pub index: usize,
+    pub offset: usize,
+    pub length: usize,
+}
+
+// Which record of a file is chosen, and where it lies; a refusal has A, the record tried, from 0.
+pub enum Chosen {
+    Record(Part),
+    Refused(WrapRefusal, usize),
+}
