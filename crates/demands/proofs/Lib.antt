@@ -13,3 +13,5 @@ pub mod SameAnswers
 pub mod SamePage
 pub mod ModelBytes
 pub mod Rounds
+pub mod Standing
+pub mod Files

@@ -1,14 +1,14 @@
 -- Fields of k bytes: their bounds, that a field determines its bytes, and that what is written is read back; then the
 -- same of rows of w bytes. The size is a variable throughout.
 -- Assumes nothing.
-use Prim.Native.Nat.{ℕ, zero, suc, _+_, _-_, _*_, _/_, _%_, _^_, _<_}
+use Prim.Native.Nat.{ℕ, zero, suc, _+_, _-_, _*_, _/_, _%_, _^_, _≤_, _<_}
 use native.Mathlib.Decide.{decLt}
 use native.Mathlib.Nat.{add-assoc, mul-zero, mul-suc, mul-le-mul-left, pow-zero, pow-suc}
 use native.Mathlib.Omega.{arith}
 use mathlib.Core.List.{List, [], _∷_, _++_}
 use mathlib.Core.Path.{_≡_, refl, sym, ap, ap₂, _∙_}
-use lib.ListN.{length, getD, drop, length-append, List·getD-append, List·getD-eq-default}
-use lib.Seq.{getD-append-add, getD-at, getD-drop}
+use lib.ListN.{length, getD, take, drop, length-append, List·getD-append, List·getD-eq-default}
+use lib.Seq.{getD-append-add, getD-at, getD-take, getD-drop}
 use Rattle.schedule.specs.Bounded.{chain}
 use Rattle.schedule.specs.Fields.{field, bytes, Bytes}
 use Rattle.laws.proofs.Tests.{up-to}
@@ -45,6 +45,13 @@ field-drop j s at zero = refl
 field-drop j s at (suc k) =
     ap₂ (λ (v b : ℕ). v * 256 + b) (field-drop j s at k)
     (getD-drop j s (at + k) 0 ∙ ap (λ (i : ℕ). getD s i 0) (sym (add-assoc j at k)))
+
+-- a field of the first n
+pub field-take : (n : ℕ) (s : List ℕ) (at k : ℕ) → at + k ≤ n → field (take n s) at k ≡ field s at k
+unfolding field
+field-take n s at zero l = refl
+field-take n s at (suc k) l =
+    ap₂ (λ (v b : ℕ). v * 256 + b) (field-take n s at k (omega (arith, l))) (getD-take n s (at + k) 0 (omega (arith, l)))
 
 -- equal fields have equal bytes
 pub field-injective : (s s′ : List ℕ) → Bytes s → Bytes s′ → (at at′ k : ℕ) → field s at k ≡ field s′ at′ k

@@ -17,14 +17,18 @@ use Rattle.schedule.specs.declared.Refusal.{Refusal}
 use Rattle.schedule.specs.declared.Verdict.{Verdict}
 use Rattle.schedule.specs.declared.RunVerdict.{RunVerdict}
 use Rattle.schedule.specs.declared.WordAt.{WordAt}
+use Rattle.schedule.specs.declared.WrapRefusal.{WrapRefusal}
+use Rattle.schedule.specs.declared.Standing.{Standing}
+use Rattle.schedule.specs.declared.Chosen.{Chosen}
 use Rattle.schedule.specs.Rule
 use Rattle.schedule.specs.Model.{rowOrder}
 use Rattle.schedule.specs.Checks.{strictOrder}
 use Rattle.schedule.specs.Answers
 use Rattle.schedule.specs.Answers.{Answer, accepted, refused}
 use Rattle.schedule.specs.Streams.{WordOrPast, word, past}
+use Rattle.schedule.specs.Exchange
 use Rattle.schedule.specs.Numbers.{ruleNumber, refusalNumbers, verdictNumbers}
-use Rattle.schedule.specs.Numbers.{runNumbers, wordNumbers}
+use Rattle.schedule.specs.Numbers.{runNumbers, wordNumbers, wrapNumber, standingNumbers, chosenNumbers}
 
 -- a map that another undoes takes no two things to one
 undone-injective : {X Y : Type 0} (f : X → Y) (g : Y → X) → ((x : X) → g (f x) ≡ x)
@@ -140,6 +144,31 @@ word-undone : (w : WordAt) → wordAtOf (wordNumbers w) ≡ w
 word-undone (WordAt.Word w) = refl
 word-undone WordAt.Past = refl
 
+abbrev wrapOf : ℕ → WrapRefusal
+wrapOf number = cond (eqb number 54) WrapRefusal.Wrapper (cond (eqb number 55) WrapRefusal.Series WrapRefusal.Copy)
+
+wrap-undone : (why : WrapRefusal) → wrapOf (wrapNumber why) ≡ why
+wrap-undone WrapRefusal.Wrapper = refl
+wrap-undone WrapRefusal.Series = refl
+wrap-undone WrapRefusal.Copy = refl
+
+abbrev standingOf : Answer ℕ → Standing
+standingOf (accepted r) = cond (eqb r 0) Standing.First Standing.Second
+standingOf (refused x) = Standing.Refused (wrapOf (x .number)) (x .A)
+
+standing-undone : (v : Standing) → standingOf (standingNumbers v) ≡ v
+standing-undone Standing.First = refl
+standing-undone Standing.Second = refl
+standing-undone (Standing.Refused why k) = ap (λ (w : WrapRefusal). Standing.Refused w k) (wrap-undone why)
+
+abbrev chosenOf : Answer Exchange.Part → Chosen
+chosenOf (accepted x) = Chosen.Record (record { index = x .index; offset = x .offset; length = x .length })
+chosenOf (refused x) = Chosen.Refused (wrapOf (x .number)) (x .A)
+
+chosen-undone : (v : Chosen) → chosenOf (chosenNumbers v) ≡ v
+chosen-undone (Chosen.Record x) = refl
+chosen-undone (Chosen.Refused why k) = ap (λ (w : WrapRefusal). Chosen.Refused w k) (wrap-undone why)
+
 -- equal numbers and values mean equal answers
 pub refusal-injective : (x y : Refusal) → refusalNumbers x ≡ refusalNumbers y → x ≡ y
 refusal-injective = undone-injective refusalNumbers refusalOf refusal-undone
@@ -172,3 +201,9 @@ run-verdict-injective = undone-injective runNumbers runVerdictOf run-verdict-und
 
 pub word-injective : (x y : WordAt) → wordNumbers x ≡ wordNumbers y → x ≡ y
 word-injective = undone-injective wordNumbers wordAtOf word-undone
+
+pub standing-injective : (x y : Standing) → standingNumbers x ≡ standingNumbers y → x ≡ y
+standing-injective = undone-injective standingNumbers standingOf standing-undone
+
+pub chosen-injective : (x y : Chosen) → chosenNumbers x ≡ chosenNumbers y → x ≡ y
+chosen-injective = undone-injective chosenNumbers chosenOf chosen-undone

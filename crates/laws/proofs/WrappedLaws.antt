@@ -1,21 +1,25 @@
 -- Wrapped records: what their tests decide, and a step along a list of them by its tests.
 -- Assumes nothing.
-use Prim.Native.Nat.{ℕ, _+_, _<_}
+use Prim.Native.Nat.{ℕ, suc, _+_, _<_}
 use mathlib.Core.Bool.{Bool, true, false, _&&_, _||_, cond}
 use mathlib.Core.List.{List, [], _∷_}
 use mathlib.Core.Logic.{_⊎_, inl, inr, _↔_, ⊎-elim, Iff·rfl, Iff·trans, Iff·and}
-use mathlib.Core.Option.{Option, some, none, Option·none-ne-some, Option·some-ne-none}
-use mathlib.Core.Path.{_≡_, refl, subst, ap, ap₂, _∙_}
+use mathlib.Core.Option.{Option, some, none, Option·some-ne-none}
+use native.Mathlib.Omega.{arith}
+use mathlib.Core.Path.{_≡_, refl, sym, subst, ap, ap₂, _∙_}
 use lib.Dec.{T, eqb, ltb, eqb→eq, eqb-refl}
+use lib.ListN.{length}
 use Rattle.schedule.specs.Bounded.{first}
-use Rattle.schedule.specs.Rule.{Rule, Refusal, break, firstBreak, AllHold}
-use Rattle.schedule.specs.Answers.{Answer, refused}
-use Rattle.schedule.specs.Exchange.{issue, withdrawn, wrapped, flagRule, wrapperForm, unbroken, wrapperRule}
-use Rattle.schedule.specs.Exchange.{seriesRule, same, copyRule, recordRules, Outranks, outranks, atRecord, along, standing}
+use Rattle.schedule.specs.Rule.{Refusal, break, firstBreak, AllHold}
+use Rattle.schedule.specs.Answers.{Answer, accepted, refused}
+use Rattle.schedule.specs.Exchange.{series, issue, withdrawn, wrapped, flagRule, wrapperForm, unbroken, wrapperRule}
+use Rattle.schedule.specs.Exchange.{seriesRule, same, copyRule, Outranks, outranks, atRecord, along, standing}
+use Rattle.schedule.specs.Exchange.{recordAt, handedBack, Part, placed}
 use Rattle.schedule.specs.Opened.{form-rules}
 use Rattle.laws.proofs.Tests.{T-and, T-or, T-ltb, T-eqb, tests}
-use Rattle.laws.proofs.FirstBreak.{orElse, Sound, AllSound, none-iff, _&_}
+use Rattle.laws.proofs.FirstBreak.{orElse, AllSound, none-iff, _&_}
 use Rattle.laws.proofs.Sound.{modelForm-sound}
+use Rattle.laws.proofs.VerdictLaws.{accepted-is-not-refused}
 
 -- ---- the tests
 
@@ -62,24 +66,7 @@ unbroken-iff : (o : Option Refusal) → T (unbroken o) ↔ (o ≡ none)
 unbroken-iff none = (λ t. refl, λ e. tt)
 unbroken-iff (some x) = (λ t. absurd t, Option·some-ne-none x)
 
--- 54, 55 and 56
-pub wrapperRule-sound : (w : List ℕ) → Sound (wrapperRule w)
-unfolding wrapperRule
-wrapperRule-sound w a b = Iff·trans (unbroken-iff (firstBreak (wrapperForm w))) (none-iff (wrapperForm w) (wrapperForm-sound w))
-
-pub seriesRule-sound : (x w : List ℕ) → Sound (seriesRule x w)
-unfolding seriesRule
-seriesRule-sound x w a b = simp tests Iff·rfl
-
-ruleset with-same = (tests, same-sound)
-
-pub copyRule-sound : (x w : List ℕ) → Sound (copyRule x w)
-unfolding copyRule
-copyRule-sound x w a b = simp with-same (λ h i j k. h (i, (j, k)), λ h e. h (e .0) (e .1 .0) (e .1 .1))
-
--- ---- a step
-
--- a record's tests beside the one standing so far
+-- 54, 55 and 56: a record's tests beside the one standing so far
 abbrev pub isRight : List ℕ → Bool
 isRight w = wrapperRule w .test 0 0
 
@@ -89,6 +76,23 @@ oneSeries x w = seriesRule x w .test 0 0
 abbrev pub noOther : List ℕ → List ℕ → Bool
 noOther x w = copyRule x w .test 0 0
 
+pub right-sound : (w : List ℕ) → T (isRight w) ↔ AllHold (wrapperForm w)
+unfolding wrapperRule
+right-sound w = Iff·trans (unbroken-iff (firstBreak (wrapperForm w))) (none-iff (wrapperForm w) (wrapperForm-sound w))
+
+pub series-sound : (x w : List ℕ) → T (oneSeries x w) ↔ (series w ≡ series x)
+unfolding seriesRule
+series-sound x w = T-eqb (series w) (series x)
+
+ruleset with-same = (tests, same-sound)
+
+pub copy-sound : (x w : List ℕ)
+    → T (noOther x w) ↔ (series w ≡ series x → issue w ≡ issue x → withdrawn w ≡ withdrawn x → w ≡ x)
+unfolding copyRule
+copy-sound x w = simp with-same (λ h i j k. h (i, (j, k)), λ h e. h (e .0) (e .1 .0) (e .1 .1))
+
+-- ---- a step
+
 -- refused at record k by a number
 abbrev pub turned : {F : Type 0} → ℕ → ℕ → Answer F
 turned number k = refused (record { number = number; A = k; B = 0 })
@@ -97,6 +101,20 @@ turned number k = refused (record { number = number; A = k; B = 0 })
 abbrev pub byTests : {F : Type 0} → Bool → Bool → Bool → Bool → ℕ → Answer F → Answer F → Answer F
 byTests right one copy above k new old =
     cond right (cond one (cond copy (cond above new old) (turned 56 k)) (turned 55 k)) (turned 54 k)
+
+-- what holds of each of the five holds of the one
+pub by-tests : {F : Type 0} (P : Answer F → Type 0) (right one copy above : Bool) (k : ℕ) (new old : Answer F)
+    → (¬ T right → P (turned 54 k))
+    → (T right → ¬ T one → P (turned 55 k))
+    → (T right → T one → ¬ T copy → P (turned 56 k))
+    → (T right → T one → T copy → T above → P new)
+    → (T right → T one → T copy → ¬ T above → P old)
+    → P (byTests right one copy above k new old)
+by-tests P false one copy above k new old r54 r55 r56 n o = r54 (λ t. t)
+by-tests P true false copy above k new old r54 r55 r56 n o = r55 tt (λ t. t)
+by-tests P true true false above k new old r54 r55 r56 n o = r56 tt tt (λ t. t)
+by-tests P true true true true k new old r54 r55 r56 n o = n tt tt tt tt
+by-tests P true true true false k new old r54 r55 r56 n o = o tt tt tt (λ t. t)
 
 -- the answer that follows the first break of a record's rules
 abbrev onwards : Option Refusal → Bool → ℕ → Answer ℕ → Answer ℕ → Answer ℕ
@@ -131,3 +149,82 @@ standing-first w ws = by (isRight w) (along 1 0 w ws)
         → onwards (orElse (unless right 54) none) true 0 new new ≡ cond right new (turned 54 0)
     by false new = refl
     by true new = refl
+
+-- ---- the answers
+
+abbrev numberOf : Answer ℕ → ℕ
+numberOf (accepted r) = r
+numberOf (refused x) = 0
+
+no-pass : {F : Type 0} (x : Refusal) (f : F) → ¬ (refused x ≡ accepted f)
+no-pass x f e = accepted-is-not-refused f x (sym e)
+
+-- the one that stands is one of them
+along-lt : (ws : List (List ℕ)) (k r : ℕ) (x : List ℕ) → r < k
+    → (s : ℕ) → along k r x ws ≡ accepted s → s < k + length ws
+unfolding along
+along-lt [] k r x l s e = omega (arith, l, ap numberOf e)
+along-lt (w ∷ ws) k r x l s e =
+    by-tests (λ a. a ≡ accepted s → s < k + suc (length ws))
+    (isRight w) (oneSeries x w) (noOther x w) (outranks w x) k (along (k + 1) k w ws) (along (k + 1) r x ws)
+    (λ _ z. absurd (no-pass _ s z)) (λ _ _ z. absurd (no-pass _ s z)) (λ _ _ _ z. absurd (no-pass _ s z))
+    (λ _ _ _ _ z. omega (arith, along-lt ws (k + 1) k w (omega arith) s z))
+    (λ _ _ _ _ z. omega (arith, along-lt ws (k + 1) r x (omega (arith, l)) s z))
+    (sym (along-step k r x w ws) ∙ e)
+
+pub standing-lt : (ws : List (List ℕ)) (s : ℕ) → standing ws ≡ accepted s → s < length ws
+unfolding standing
+standing-lt [] s e = absurd (no-pass _ s e)
+standing-lt (w ∷ ws) s e = by (isRight w) (sym (standing-first w ws) ∙ e)
+  where
+    by : (right : Bool) → cond right (along 1 0 w ws) (turned 54 0) ≡ accepted s → s < suc (length ws)
+    by false z = absurd (no-pass _ s z)
+    by true z = omega (arith, along-lt ws 1 0 w (omega arith) s z)
+
+-- what is handed back, and where it lies
+pub handed-back : (ws : List (List ℕ)) (r : ℕ) → standing ws ≡ accepted r → handedBack ws ≡ recordAt ws r
+unfolding handedBack
+handed-back ws r e = ap (λ (a : Answer ℕ). elim a [ accepted s ↦ recordAt ws s | refused x ↦ [] ]) e
+
+pub nothing-back : (ws : List (List ℕ)) (x : Refusal) → standing ws ≡ refused x → handedBack ws ≡ []
+unfolding handedBack
+nothing-back ws x e = ap (λ (a : Answer ℕ). elim a [ accepted s ↦ recordAt ws s | refused y ↦ [] ]) e
+
+-- the part of a record, where it is known where each begins
+abbrev pub partOf : (ℕ → ℕ) → List (List ℕ) → ℕ → Part
+partOf offset ws r = record { index = r; offset = offset r; length = length (recordAt ws r) }
+
+abbrev placing : (ℕ → ℕ) → List (List ℕ) → Answer ℕ → Answer Part
+placing offset ws a = elim a [ accepted r ↦ accepted (partOf offset ws r) | refused x ↦ refused x ]
+
+pub placed-accepted : (offset : ℕ → ℕ) (ws : List (List ℕ)) (r : ℕ) → standing ws ≡ accepted r
+    → placed offset ws ≡ accepted (partOf offset ws r)
+unfolding placed
+placed-accepted offset ws r e = ap (placing offset ws) e
+
+pub placed-refused : (offset : ℕ → ℕ) (ws : List (List ℕ)) (x : Refusal) → standing ws ≡ refused x
+    → placed offset ws ≡ refused x
+unfolding placed
+placed-refused offset ws x e = ap (placing offset ws) e
+
+-- and back
+pub placed-from : (offset : ℕ → ℕ) (ws : List (List ℕ)) (x : Part) → placed offset ws ≡ accepted x
+    → (standing ws ≡ accepted (x .index)) × (partOf offset ws (x .index) ≡ x)
+unfolding placed
+placed-from offset ws x = by (standing ws)
+  where
+    by : (a : Answer ℕ) → placing offset ws a ≡ accepted x → (a ≡ accepted (x .index)) × (partOf offset ws (x .index) ≡ x)
+    by (accepted r) e =
+        let same : partOf offset ws r ≡ x = cc in
+        (ap (λ (y : Part). accepted (y .index)) same,
+        subst (λ (y : Part). partOf offset ws (y .index) ≡ y) same refl)
+    by (refused y) e = absurd (no-pass y x e)
+
+pub refused-from : (offset : ℕ → ℕ) (ws : List (List ℕ)) (x : Refusal) → placed offset ws ≡ refused x
+    → standing ws ≡ refused x
+unfolding placed
+refused-from offset ws x = by (standing ws)
+  where
+    by : (a : Answer ℕ) → placing offset ws a ≡ refused x → a ≡ refused x
+    by (accepted r) e = absurd (accepted-is-not-refused _ x e)
+    by (refused y) e = cc

@@ -1,0 +1,175 @@
+-- The records of a file are the records that it holds end to end, and its answer is the one that stands among them (U6 of 02).
+-- Assumes nothing.
+use Prim.Native.Nat.{ℕ, zero, suc, _+_, _-_, _≤_, _<_}
+use native.Mathlib.Omega.{arith}
+use mathlib.Core.List.{List, [], _∷_, _++_, append-nil, append-assoc}
+use mathlib.Core.Logic.{_↔_, ⊎-elim}
+use mathlib.Core.Path.{_≡_, refl, sym, subst, ap, ap₂, _∙_}
+use lib.ListN.{length, take, drop, length-drop, length-append}
+use lib.Seq.{length-take-le, take-length, take-append-seam, drop-append-seam}
+use Rattle.schedule.specs.Bounded.{chain}
+use Rattle.schedule.specs.Fields.{field}
+use Rattle.schedule.specs.Rule.{Refusal}
+use Rattle.schedule.specs.Records.{Within, lengthRule, versionRule}
+use Rattle.schedule.specs.Answers.{accepted, refused}
+use Rattle.schedule.specs.Exchange.{wrapperLength, flagRule, wrapperForm, recordAt, Part}
+use Rattle.schedule.specs.Exchange.{recordEnd, recordsOf, offsetIn, fileAnswer, fileBytes}
+use Rattle.laws.proofs.FieldLaws.{field-take}
+use Rattle.laws.proofs.WrappedLaws.{standing-lt, handed-back, nothing-back, placed-from, refused-from}
+use Rattle.laws.proofs.FileRecords.{ends, end-le, records-none, records-cons, Next, next, before-end, reached, joined}
+use Rattle.demands.specs.Exchange.{IsRight, BeginsRecord, Holds, FilesHoldRecords, NoOtherRecords, Answers, FilesAreChosen}
+use Rattle.demands.proofs.Standing.{one-stands}
+
+-- ---- what begins a record
+
+-- what a record that is right says of its own bytes
+sized : (w : List ℕ) → IsRight w → (12 ≤ length w) × (field w 0 4 ≡ length w)
+unfolding wrapperForm lengthRule
+sized w h = h .0 0 0 (omega arith) (omega arith)
+
+-- the first record of what is left, where its length is 12 at least and not past the end
+right-there : (f : List ℕ) → Within wrapperLength (length f) (field f 0 4) → IsRight (take (field f 0 4) f) → BeginsRecord f
+unfolding wrapperForm versionRule flagRule
+right-there f w h = record {
+  readable = omega (arith, w .0, w .1);
+  long-enough = w .0;
+  in-file = w .1;
+  version =
+      sym (field-take (field f 0 4) f 4 1 (omega (arith, w .0)))
+      ∙ only-1 _ (h .1 .0 0 0 (omega arith) (omega arith));
+  flag = subst (λ (v : ℕ). v ≤ 1) (field-take (field f 0 4) f 11 1 (omega (arith, w .0)))
+      (h .1 .1 .0 0 0 (omega arith) (omega arith));
+  model = h .1 .1 .1;
+}
+  where
+    only-1 : (v : ℕ) → Within 1 1 v → v ≡ 1
+    only-1 v h = omega (arith, h .0, h .1)
+
+right-back : (f : List ℕ) → BeginsRecord f → IsRight (take (field f 0 4) f)
+unfolding wrapperForm lengthRule versionRule flagRule
+right-back f h = (
+  λ _ _ _ _. (
+    omega (arith, measured, h .long-enough),
+    field-take L f 0 4 (omega (arith, h .long-enough)) ∙ sym measured,
+  ),
+  (
+    λ _ _ _ _. (let e : field (take L f) 4 1 ≡ 1 = field-take L f 4 1 (omega (arith, h .long-enough)) ∙ h .version in
+        (omega (arith, e), omega (arith, e))),
+    (
+      λ _ _ _ _. subst (λ (v : ℕ). v ≤ 1) (sym (field-take L f 11 1 (omega (arith, h .long-enough)))) (h .flag),
+      h .model,
+    ),
+  ),
+)
+  where
+    L : ℕ
+    L = field f 0 4
+
+    measured : length (take L f) ≡ L
+    measured = length-take-le L f (h .in-file)
+
+-- what is cut off the front is right exactly where a record begins
+right-iff : (f : List ℕ) → IsRight (take (recordEnd f) f) ↔ BeginsRecord f
+right-iff f =
+    ⊎-elim
+    (λ h. (
+      λ r. right-there f (h .0) (subst (λ (n : ℕ). IsRight (take n f)) (h .1) r),
+      λ b. subst (λ (n : ℕ). IsRight (take n f)) (sym (h .1)) (right-back f b),
+    ))
+    (λ h. (
+      λ r. absurd (h .0 (whole (subst IsRight (ap (λ (n : ℕ). take n f) (h .1) ∙ take-length f) r))),
+      λ b. absurd (h .0 (b .long-enough, b .in-file)),
+    ))
+    (ends f)
+  where
+    whole : IsRight f → Within wrapperLength (length f) (field f 0 4)
+    whole r =
+        let s = sized f r in
+        (omega (arith, s .0, s .1), omega (arith, s .1))
+
+-- ---- of every file
+
+there : (f : List ℕ) (k : ℕ) → k < length (recordsOf f) → Next f k (offsetIn (recordsOf f) k)
+there f k l =
+    let at : ℕ = offsetIn (recordsOf f) k in
+    let h = reached f k (omega (arith, l)) in
+    next f k at h (before-end f k at h l)
+
+pub files-hold-records : FilesHoldRecords
+files-hold-records f = record {
+  joined = joined f;
+  lies = λ k l.
+      let n = there f k l in
+      n .is ∙ ap (λ (i : ℕ). take i (drop (offsetIn (recordsOf f) k) f)) (sym (n .measured));
+  right = λ k l.
+      subst (λ (w : List ℕ). IsRight w ↔ BeginsRecord (drop (offsetIn (recordsOf f) k) f)) (sym (there f k l .is))
+      (right-iff (drop (offsetIn (recordsOf f) k) f));
+}
+
+-- ---- no other records
+
+chain-cons : (n : ℕ) (f : ℕ → List ℕ) → chain (suc n) f ≡ f 0 ++ chain n (λ k. f (suc k))
+unfolding chain
+chain-cons zero f = sym (append-nil (f 0))
+chain-cons (suc n) f =
+    ap (λ (l : List ℕ). l ++ f (suc n)) (chain-cons n f) ∙ append-assoc (f 0) (chain n (λ k. f (suc k))) (f (suc n))
+
+pub no-other-records : NoOtherRecords
+unfolding chain
+no-other-records [] h = records-none [] (omega arith)
+no-other-records (w ∷ ws) h =
+    ap recordsOf (chain-cons (length ws) (recordAt (w ∷ ws)))
+    ∙ records-cons all (omega (arith, length-append w rest, size .0))
+    ∙ ap₂ (λ (x : List ℕ) (xs : List (List ℕ)). x ∷ xs)
+        (ap (λ (n : ℕ). take n all) ended ∙ take-append-seam w rest)
+        (ap (λ (n : ℕ). recordsOf (drop n all)) ended ∙ ap recordsOf (drop-append-seam w rest)
+        ∙ no-other-records ws (λ k l. h (suc k) (omega (arith, l))))
+  where
+    rest : List ℕ
+    rest = chain (length ws) (recordAt ws)
+
+    all : List ℕ
+    all = w ++ rest
+
+    size : (12 ≤ length w) × (field w 0 4 ≡ length w)
+    size = sized w (h 0 (omega arith))
+
+    says : field all 0 4 ≡ length w
+    says =
+        sym (field-take (length w) all 0 4 (omega (arith, size .0)))
+        ∙ ap (λ (l : List ℕ). field l 0 4) (take-append-seam w rest)
+        ∙ size .1
+
+    ended : recordEnd all ≡ length w
+    ended = ⊎-elim
+        (λ e. e .1 ∙ says)
+        (λ e. absurd (e .0 (omega (arith, says, size .0), omega (arith, says, length-append w rest))))
+        (ends all)
+
+-- ---- the answer
+
+pub files-are-chosen : FilesAreChosen
+unfolding fileAnswer fileBytes
+files-are-chosen f = record {
+  chosen = λ x e.
+      let from = placed-from (offsetIn ws) ws x e in
+      let r : ℕ = x .index in
+      let n : Next f r (offsetIn ws r) = there f r (standing-lt ws r (from .0)) in
+      let offset : offsetIn ws r ≡ x .offset = ap (λ (y : Part). y .offset) (from .1) in
+      let size : length (recordAt ws r) ≡ x .length = ap (λ (y : Part). y .length) (from .1) in
+      (
+        one-stands ws .0 r .0 (from .0),
+        (
+          omega (arith, n .reached .in-file, n .measured, offset, size),
+          handed-back ws r (from .0) ∙ n .is
+          ∙ ap₂ (λ (i j : ℕ). take i (drop j f)) (sym (n .measured) ∙ size) offset
+          ,
+        ),
+      );
+  turned-away = λ x e.
+      let from = refused-from (offsetIn ws) ws x e in
+      (one-stands ws .1 x .0 from, nothing-back ws x from);
+}
+  where
+    ws : List (List ℕ)
+    ws = recordsOf f
