@@ -1,6 +1,6 @@
 -- The records of a file are the records that it holds end to end, and its answer is the one that stands among them (U6 of 02).
 -- Assumes nothing.
-use Prim.Native.Nat.{ℕ, zero, suc, _+_, _-_, _≤_, _<_}
+use Prim.Native.Nat.{ℕ, zero, suc, _≤_}
 use native.Mathlib.Omega.{arith}
 use mathlib.Core.List.{List, [], _∷_, _++_, append-nil, append-assoc}
 use mathlib.Core.Logic.{_↔_, ⊎-elim}
@@ -9,15 +9,11 @@ use lib.ListN.{length, take, drop, length-drop, length-append}
 use lib.Seq.{length-take-le, take-length, take-append-seam, drop-append-seam}
 use Rattle.schedule.specs.Bounded.{chain}
 use Rattle.schedule.specs.Fields.{field}
-use Rattle.schedule.specs.Rule.{Refusal}
 use Rattle.schedule.specs.Records.{Within, lengthRule, versionRule}
-use Rattle.schedule.specs.Answers.{accepted, refused}
-use Rattle.schedule.specs.Exchange.{wrapperLength, flagRule, wrapperForm, recordAt, Part}
-use Rattle.schedule.specs.Exchange.{recordEnd, recordsOf, offsetIn, fileAnswer, fileBytes}
+use Rattle.schedule.specs.Exchange.{wrapperLength, flagRule, wrapperForm, recordAt, recordEnd, recordsOf, offsetIn}
 use Rattle.laws.proofs.FieldLaws.{field-take}
-use Rattle.laws.proofs.WrappedLaws.{standing-lt, handed-back, nothing-back, placed-from, refused-from}
-use Rattle.laws.proofs.FileRecords.{ends, end-le, records-none, records-cons, Next, next, before-end, reached, joined}
-use Rattle.demands.specs.Exchange.{IsRight, BeginsRecord, Holds, FilesHoldRecords, NoOtherRecords, Answers, FilesAreChosen}
+use Rattle.laws.proofs.FileRecords.{ends, records-none, records-cons, at-offset, joined, chosen-part, chosen-nothing}
+use Rattle.demands.specs.Exchange.{IsRight, BeginsRecord, FilesHoldRecords, NoOtherRecords, FilesAreChosen}
 use Rattle.demands.proofs.Standing.{one-stands}
 
 -- ---- what begins a record
@@ -89,20 +85,14 @@ right-iff f =
 
 -- ---- of every file
 
-there : (f : List ℕ) (k : ℕ) → k < length (recordsOf f) → Next f k (offsetIn (recordsOf f) k)
-there f k l =
-    let at : ℕ = offsetIn (recordsOf f) k in
-    let h = reached f k (omega (arith, l)) in
-    next f k at h (before-end f k at h l)
-
 pub files-hold-records : FilesHoldRecords
 files-hold-records f = record {
   joined = joined f;
   lies = λ k l.
-      let n = there f k l in
+      let n = at-offset f k l in
       n .is ∙ ap (λ (i : ℕ). take i (drop (offsetIn (recordsOf f) k) f)) (sym (n .measured));
   right = λ k l.
-      subst (λ (w : List ℕ). IsRight w ↔ BeginsRecord (drop (offsetIn (recordsOf f) k) f)) (sym (there f k l .is))
+      subst (λ (w : List ℕ). IsRight w ↔ BeginsRecord (drop (offsetIn (recordsOf f) k) f)) (sym (at-offset f k l .is))
       (right-iff (drop (offsetIn (recordsOf f) k) f));
 }
 
@@ -149,27 +139,11 @@ no-other-records (w ∷ ws) h =
 -- ---- the answer
 
 pub files-are-chosen : FilesAreChosen
-unfolding fileAnswer fileBytes
 files-are-chosen f = record {
   chosen = λ x e.
-      let from = placed-from (offsetIn ws) ws x e in
-      let r : ℕ = x .index in
-      let n : Next f r (offsetIn ws r) = there f r (standing-lt ws r (from .0)) in
-      let offset : offsetIn ws r ≡ x .offset = ap (λ (y : Part). y .offset) (from .1) in
-      let size : length (recordAt ws r) ≡ x .length = ap (λ (y : Part). y .length) (from .1) in
-      (
-        one-stands ws .0 r .0 (from .0),
-        (
-          omega (arith, n .reached .in-file, n .measured, offset, size),
-          handed-back ws r (from .0) ∙ n .is
-          ∙ ap₂ (λ (i j : ℕ). take i (drop j f)) (sym (n .measured) ∙ size) offset
-          ,
-        ),
-      );
+      let part = chosen-part f x e in
+      (one-stands (recordsOf f) .0 (x .index) .0 (part .0), part .1);
   turned-away = λ x e.
-      let from = refused-from (offsetIn ws) ws x e in
-      (one-stands ws .1 x .0 from, nothing-back ws x from);
+      let nothing = chosen-nothing f x e in
+      (one-stands (recordsOf f) .1 x .0 (nothing .0), nothing .1);
 }
-  where
-    ws : List (List ℕ)
-    ws = recordsOf f

@@ -1,4 +1,4 @@
--- The records of a file: where each of them begins and ends, and that they join to the file.
+-- The records of a file: where each of them begins and ends, that they join to the file, and the part that is handed back.
 -- Assumes nothing.
 use Prim.Native.Nat.{ℕ, zero, suc, _+_, _-_, _≤_, _<_}
 use native.Mathlib.Decide.{decLt}
@@ -14,8 +14,12 @@ use lib.Seq.{take-all, length-take-le, drop-length, drop-cons, drop-drop, take-a
 use Rattle.schedule.specs.Bounded.{total, chain}
 use Rattle.schedule.specs.Fields.{field}
 use Rattle.schedule.specs.Records.{Within, within}
-use Rattle.schedule.specs.Exchange.{wrapperLength, recordAt, recordEnd, cutInto, recordsOf, offsetIn}
+use Rattle.schedule.specs.Rule.{Refusal}
+use Rattle.schedule.specs.Answers.{accepted, refused}
+use Rattle.schedule.specs.Exchange.{wrapperLength, standing, recordAt, Part}
+use Rattle.schedule.specs.Exchange.{recordEnd, cutInto, recordsOf, offsetIn, fileAnswer, fileBytes}
 use Rattle.laws.proofs.Tests.{T-and, T-leb}
+use Rattle.laws.proofs.WrappedLaws.{standing-lt, handed-back, nothing-back, placed-from, refused-from}
 
 -- ---- where a record ends
 
@@ -176,6 +180,12 @@ reached f (suc k) l = after (reached f k (omega (arith, l)))
     after : Reached f k at → Reached f (suc k) (offsetIn ws (suc k))
     after h = there (next f k at h (before-end f k at h (omega (arith, l))))
 
+pub at-offset : (f : List ℕ) (k : ℕ) → k < length (recordsOf f) → Next f k (offsetIn (recordsOf f) k)
+at-offset f k l =
+    let at : ℕ = offsetIn (recordsOf f) k in
+    let h : Reached f k at = reached f k (omega (arith, l)) in
+    next f k at h (before-end f k at h l)
+
 -- the first k of them are the file up to there, and all of them are the file
 pub joined-to : (f : List ℕ) (k : ℕ) → k ≤ length (recordsOf f)
     → chain k (recordAt (recordsOf f)) ≡ take (offsetIn (recordsOf f) k) f
@@ -201,3 +211,34 @@ pub joined : (f : List ℕ) → chain (length (recordsOf f)) (recordAt (recordsO
 joined f =
     let h : Reached f (length (recordsOf f)) _ = reached f (length (recordsOf f)) (omega arith) in
     joined-to f (length (recordsOf f)) (omega arith) ∙ take-all _ f (at-end f _ _ h (omega arith))
+
+-- ---- the chosen one
+
+-- the part that is answered lies in the file, and is what is handed back
+pub chosen-part : (f : List ℕ) (x : Part) → fileAnswer f ≡ accepted x
+    → (standing (recordsOf f) ≡ accepted (x .index))
+    × ((x .offset + x .length ≤ length f) × (fileBytes f ≡ take (x .length) (drop (x .offset) f)))
+unfolding fileAnswer fileBytes
+chosen-part f x e =
+    let ws : List (List ℕ) = recordsOf f in
+    let from = placed-from (offsetIn ws) ws x e in
+    let r : ℕ = x .index in
+    let n : Next f r (offsetIn ws r) = at-offset f r (standing-lt ws r (from .0)) in
+    let offset : offsetIn ws r ≡ x .offset = ap (λ (y : Part). y .offset) (from .1) in
+    let size : length (recordAt ws r) ≡ x .length = ap (λ (y : Part). y .length) (from .1) in
+    (
+      from .0,
+      (
+        omega (arith, n .reached .in-file, n .measured, offset, size),
+        handed-back ws r (from .0)
+        ∙ n .is
+        ∙ ap₂ (λ (i j : ℕ). take i (drop j f)) (sym (n .measured) ∙ size) offset,
+      ),
+    )
+
+pub chosen-nothing : (f : List ℕ) (x : Refusal) → fileAnswer f ≡ refused x
+    → (standing (recordsOf f) ≡ refused x) × (fileBytes f ≡ [])
+unfolding fileAnswer fileBytes
+chosen-nothing f x e =
+    let from = refused-from (offsetIn (recordsOf f)) (recordsOf f) x e in
+    (from, nothing-back (recordsOf f) x from)

@@ -1,0 +1,53 @@
+-- `exchange::chosen` meets its contract: the part that is answered, or an empty one. Assumes nothing.
+use mathlib.Core.Path.{sym, ap, _∙_}
+use Rattle.schedule.specs.Numbers.{chosenNumbers}
+use Rattle.laws.proofs.FileRecords.{chosen-part, chosen-nothing}
+use borrow.Author.Needs.{needs}
+use Rattle.exchange.proofs.chosen.Statement.{statement}
+use Rattle.exchange.proofs.chosen.Tie as tie
+
+choose-requires : tie.Need-choose-requires
+choose-requires c κs = search needs
+
+enum-known-found : tie.Need-enum-known-found
+enum-known-found c = search needs
+
+bytes-of-requires : tie.Need-bytes-of-requires
+bytes-of-requires c κs = chosen-part (c .before .before .before .before .before .args .file .now) _ (sym (c .before .before .before .choose .ensures) ∙ ap chosenNumbers (c .before .found .given .1)) .1 .0
+
+enum-told : tie.Need-enum-told
+enum-told c = search needs
+
+sub-result : tie.Need-sub-result
+sub-result c = search needs
+
+part-result-start : tie.Need-part-result-start
+part-result-start c = search needs
+
+part-result-end : tie.Need-part-result-end
+part-result-end c = search needs
+
+returns : tie.Need-returns
+returns c =
+    c .bytes-of .ensures
+    ∙ sym (chosen-part (c .before .before .before .before .before .before .args .file .now) _
+    (sym (c .before .before .before .before .choose .ensures) ∙ ap chosenNumbers (c .before .before .found .given .1)) .1 .1)
+
+returns-2 : tie.Need-returns-2
+returns-2 c =
+    sym (chosen-nothing (c .before .before .before .before .before .args .file .now) _
+    (sym (c .before .before .before .choose .ensures) ∙ ap chosenNumbers (c .before .enum-told .given .1)) .1)
+
+pub chosen-spec : {M : Type 1} → statement M
+chosen-spec =
+    tie.close
+    (tie.spec
+    choose-requires
+    enum-known-found
+    bytes-of-requires
+    enum-told
+    sub-result
+    part-result-start
+    part-result-end
+    returns
+    returns-2)
