@@ -1,14 +1,20 @@
 // The exports for C and Rust: include/grid.h declares them.
 use numbers::refusal_numbers;
+use numbers::wrap_number;
+use schedule::Chosen;
+use schedule::Part;
 use schedule::Refusal;
 use schedule::RunVerdict;
+use schedule::Standing;
 use schedule::Verdict;
+use schedule::WrapRefusal;
 ghost use mathlib.Core.Path.{_≡_};
 ghost use lib.ListN.{length};
-ghost use Rattle.schedule.specs.Answers.{plainVerdict, strictVerdict, runAnswer, runBuffer};
+ghost use Rattle.schedule.specs.Answers.{accepted, refused, plainVerdict, strictVerdict, runAnswer, runBuffer};
 ghost use Rattle.schedule.specs.Report.{reportAnswer, reportRows};
-ghost use Rattle.schedule.specs.Numbers.{refusalNumbers, verdictNumbers, runNumbers};
-ghost use Rattle.capi.specs.Exported.{refusalExported, verdictExported, runExported};
+ghost use Rattle.schedule.specs.Exchange.{pairPart, fileAnswer};
+ghost use Rattle.schedule.specs.Numbers.{refusalNumbers, verdictNumbers, runNumbers, wrapNumbers, partNumbers};
+ghost use Rattle.capi.specs.Exported.{refusalExported, verdictExported, runExported, partExported};
 
 // Number 0 for accepted, then usage, c times H, makespan, and the length of the run's plan (0 for a check); otherwise the
 // refusal's number, A, B, 0, 0.
@@ -19,6 +25,17 @@ pub struct GridAnswer {
     pub second: u32,
     pub third: u32,
     pub length: u32,
+}
+
+// Of wrapped records: number 0, then the record's number, from 0, its first byte in its argument (0 in a pair) and its length;
+// otherwise the refusal's number, A in the place of the record, and 0, 0. `zero` is always 0.
+#[repr(C)]
+pub struct GridPart {
+    pub number: u32,
+    pub zero: u32,
+    pub record: u64,
+    pub offset: u64,
+    pub length: u64,
 }
 
 fn refusal(x: Refusal) -> GridAnswer
@@ -67,6 +84,30 @@ fn run_answer(v: RunVerdict) -> GridAnswer
     }
 }
 
+fn part_refusal(why: WrapRefusal, record: usize) -> GridPart
+    ensures { λ r. ⌜ r ≡ partExported (refused (wrapNumbers why «record»)) ⌝ }
+{
+    GridPart {
+        number: wrap_number(why),
+        zero: 0,
+        record: record as u64,
+        offset: 0,
+        length: 0,
+    }
+}
+
+fn part(x: Part) -> GridPart
+    ensures { λ r. ⌜ r ≡ partExported (accepted (partNumbers x)) ⌝ }
+{
+    GridPart {
+        number: 0,
+        zero: 0,
+        record: x.index as u64,
+        offset: x.offset as u64,
+        length: x.length as u64,
+    }
+}
+
 // The plain check of a model's and a plan's bytes.
 #[no_mangle]
 pub extern "C" fn grid_check_plain(model: &[u8], plan: &[u8]) -> GridAnswer
@@ -99,4 +140,37 @@ pub extern "C" fn grid_lateness(model: &[u8], choice: &[u8], rows: &mut [i32]) -
         × (now (rows .exit) ≡ reportRows (now (model .entry)) (now (choice .entry)) (now (rows .entry))) ⌝ }
 {
     run_answer(report::lateness(model, choice, rows))
+}
+
+// Which of two wrapped records stands.
+#[no_mangle]
+pub extern "C" fn grid_stands(first: &[u8], second: &[u8]) -> GridPart
+    ensures { λ r. ⌜ r ≡ partExported (pairPart (now (first .entry)) (now (second .entry))) ⌝ }
+{
+    let found = exchange::which(first, second);
+    match found {
+        Standing::First => part(Part {
+            index: 0,
+            offset: 0,
+            length: first.len(),
+        }),
+        Standing::Second => part(Part {
+            index: 1,
+            offset: 0,
+            length: second.len(),
+        }),
+        Standing::Refused(why, a) => part_refusal(why, a),
+    }
+}
+
+// Which record of a file is chosen.
+#[no_mangle]
+pub extern "C" fn grid_choose(file: &[u8]) -> GridPart
+    ensures { λ r. ⌜ r ≡ partExported (fileAnswer (now (file .entry))) ⌝ }
+{
+    let found = exchange::choose(file);
+    match found {
+        Chosen::Record(x) => part(x),
+        Chosen::Refused(why, a) => part_refusal(why, a),
+    }
 }

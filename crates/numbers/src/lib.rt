@@ -9,6 +9,7 @@ use schedule::RuleRefusal;
 use schedule::RunRefusal;
 use schedule::RunVerdict;
 use schedule::TickRule;
+use schedule::WrapRefusal;
 ghost use mathlib.Core.Path.{_≡_};
 ghost use Prim.Native.Nat.{_+_, _-_, _%_, max, min};
 ghost use lib.IntN.{natAbs};
@@ -16,7 +17,7 @@ ghost use Rattle.schedule.specs.Report.{fills, isDash};
 ghost use Rattle.schedule.specs.Lines.{hexDigit};
 ghost use Rattle.schedule.specs.declared.FormRefusal.{FormRefusal};
 ghost use Rattle.schedule.specs.declared.RuleRefusal.{RuleRefusal};
-ghost use Rattle.schedule.specs.Numbers.{formNumber, ruleNumber, runNumber, refusalNumbers, numbersOf, runNumbers};
+ghost use Rattle.schedule.specs.Numbers.{formNumber, ruleNumber, runNumber, refusalNumbers, numbersOf, runNumbers, wrapNumber};
 
 // 5 to 7, 52 and 53.
 fn row_number(rule: RowRule) -> u32
@@ -120,6 +121,17 @@ pub fn refusal_numbers(x: Refusal) -> Numbered
             a: at.a,
             b: at.b,
         },
+    }
+}
+
+// 54 to 56.
+pub fn wrap_number(why: WrapRefusal) -> u32
+    ensures { λ r. ⌜ r ≡ wrapNumber why ⌝ }
+{
+    match why {
+        WrapRefusal::Wrapper => 54,
+        WrapRefusal::Series => 55,
+        WrapRefusal::Copy => 56,
     }
 }
 
