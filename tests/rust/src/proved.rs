@@ -3,7 +3,7 @@
 //! Pointer and length are declared as two parameters. A slice as one parameter would not do for `out` and `rows`: no
 //! register is left for its length, and the pointer would then go to the stack with it.
 
-use crate::Answer;
+use crate::{Answer, Part};
 
 extern "C" {
     fn grid_check_plain(model: *const u8, model_length: usize, plan: *const u8, plan_length: usize) -> Answer;
@@ -24,6 +24,8 @@ extern "C" {
         rows: *mut i32,
         rows_length: usize,
     ) -> Answer;
+    fn grid_stands(first: *const u8, first_length: usize, second: *const u8, second_length: usize) -> Part;
+    fn grid_choose(file: *const u8, file_length: usize) -> Part;
 }
 
 pub fn check_plain(model: &[u8], plan: &[u8]) -> Answer {
@@ -45,4 +47,14 @@ pub fn lateness(model: &[u8], choice: &[u8], rows: &mut [i32]) -> Answer {
     // SAFETY: each pointer comes with the length of its slice, that of `rows` in rows, and `rows` is borrowed alone, so it
     // overlaps neither input.
     unsafe { grid_lateness(model.as_ptr(), model.len(), choice.as_ptr(), choice.len(), rows.as_mut_ptr(), rows.len()) }
+}
+
+pub fn stands(first: &[u8], second: &[u8]) -> Part {
+    // SAFETY: each pointer comes with the length of its slice, and nothing is written.
+    unsafe { grid_stands(first.as_ptr(), first.len(), second.as_ptr(), second.len()) }
+}
+
+pub fn choose(file: &[u8]) -> Part {
+    // SAFETY: the pointer comes with the length of its slice, and nothing is written.
+    unsafe { grid_choose(file.as_ptr(), file.len()) }
 }

@@ -1,4 +1,4 @@
-//! The three records as values that can be altered freely and written out; nothing here is checked.
+//! The three records and the wrapper as values that can be altered freely and written out; nothing here is checked.
 
 #[derive(Clone, Debug)]
 pub struct ThreadRow {
@@ -52,6 +52,16 @@ pub struct Plan {
     /// Start and end of each activity.
     pub rows: Vec<(u16, u16)>,
     pub words: Vec<u32>,
+}
+
+/// A model wrapped for exchange.
+#[derive(Clone, Debug, PartialEq, Eq)]
+pub struct Wrapped {
+    pub series: u32,
+    pub issue: u16,
+    /// 1 for a withdrawn page, 0 for a live one.
+    pub withdrawn: u8,
+    pub model: Vec<u8>,
 }
 
 /// Puts the length of `bytes` into their first four.
@@ -178,6 +188,17 @@ impl Plan {
         for word in &self.words {
             bytes.extend(word.to_be_bytes());
         }
+        with_length(bytes)
+    }
+}
+
+impl Wrapped {
+    pub fn bytes(&self) -> Vec<u8> {
+        let mut bytes = vec![0, 0, 0, 0, 1];
+        bytes.extend(self.series.to_be_bytes());
+        bytes.extend(self.issue.to_be_bytes());
+        bytes.push(self.withdrawn);
+        bytes.extend(&self.model);
         with_length(bytes)
     }
 }

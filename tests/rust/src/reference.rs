@@ -46,6 +46,11 @@ pub fn check_strict(model: &[u8], plan: &[u8]) -> Result<Figures, Refusal> {
     Ok(page.figures())
 }
 
+/// The form rules of a model alone: 1 to 7 with 51 to 53.
+pub fn form(model: &[u8]) -> Result<(), Refusal> {
+    read_model(model).map(|_| ())
+}
+
 /// efe of each activity, for a plan that passes 8 to 14.
 pub fn earliest_starts(model: &[u8], plan: &[u8]) -> Result<Vec<u32>, Refusal> {
     let model = read_model(model)?;
