@@ -88,7 +88,7 @@ fn size(random: &mut Random) -> Size {
 }
 
 /// A model that meets its form rules, with the longest horizon. It has periods only if there are several rounds.
-fn model(random: &mut Random) -> Model {
+pub(crate) fn model(random: &mut Random) -> Model {
     let size = size(random);
     let rounds = random.pick(&[None, None, None, None, Some(1), Some(2), Some(3), Some(4)]);
     let most_threads = size.threads.min(8 / rounds.unwrap_or(1));
@@ -682,7 +682,7 @@ fn damaged_model(random: &mut Random) -> Case {
 }
 
 /// Breaks the form rule of this number, most of the time; 51 to 53 only in version 2.
-fn damage_model(random: &mut Random, number: usize, model: &Model, bytes: &mut Vec<u8>) {
+pub(crate) fn damage_model(random: &mut Random, number: usize, model: &Model, bytes: &mut Vec<u8>) {
     let n = model.threads.len();
     let m = model.activities.len();
     let version = if model.rounds.is_some() { 2 } else { 1 };

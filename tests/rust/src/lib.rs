@@ -7,7 +7,9 @@
 //! - `cargo run --release --bin bench`: the times of both
 
 pub mod cases;
+pub mod claims;
 pub mod exchange;
+pub mod files;
 pub mod proved;
 pub mod random;
 pub mod records;

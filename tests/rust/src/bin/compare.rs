@@ -1,8 +1,9 @@
 //! Compares the exports with the reference over many pairs of records: a model and a plan by both checks, a model and a
 //! choice by the run and by the report of lateness, with the whole of what these two were lent; the report is then held
-//! against the exported run, and a page of version 2 against the record of version 1 of its unrolled model. It stops at the
-//! first difference, prints that case and exits with 1. It prints how often each call gave each answer, and exits with 1 if
-//! one that the call can give came fewer than a hundred times.
+//! against the exported run, and a page of version 2 against the record of version 1 of its unrolled model. With each pair
+//! comes a pair or a file of wrapped models, of which the exports are asked which one stands; what they answer is then held
+//! against what 02 says of every file. It stops at the first difference, prints that case and exits with 1. It prints how
+//! often each call gave each answer, and exits with 1 if one that the call can give came fewer than a hundred times.
 //!
 //! `compare [CASES]` tries cases 0 to CASES - 1, `compare FIRST..END` those from FIRST to END - 1, of which no number of
 //! answers is asked.
@@ -12,7 +13,9 @@ use std::sync::atomic::{AtomicBool, Ordering};
 use std::thread;
 
 use grid_tests::cases::{self, Case};
-use grid_tests::{proved, reference, Answer};
+use grid_tests::claims::{self, Calls};
+use grid_tests::files::{self, Given};
+use grid_tests::{exchange, proved, reference, Answer};
 
 const SEED: u64 = 2011;
 const CASES: u64 = 500_000;
@@ -25,7 +28,7 @@ const LONGEST_PLAN: usize = 16_553;
 /// The row of an activity whose thread has no period.
 const DASH: i32 = -2_147_483_648;
 
-const CALLS: [&str; 4] = ["plain", "strict", "run", "lateness"];
+const CALLS: [&str; 6] = ["plain", "strict", "run", "lateness", "stands", "choose"];
 /// How often each answer that a call can give must come.
 const LEAST: u64 = 100;
 /// What each call can answer, where 0 stands for accepted. 24 is out of the book (02): no call may answer it.
@@ -33,10 +36,11 @@ const CHECKED: &[usize] = &[0, 1, 2, 3, 4, 51, 5, 52, 6, 53, 7, 8, 9, 10, 11, 12
 const CHECKED_STRICTLY: &[usize] = &[30, 31];
 const RUN: &[usize] = &[0, 1, 2, 3, 4, 51, 5, 52, 6, 53, 7, 8, 9, 10, 11, 12, 13, 41, 42, 43];
 const LATENESS: &[usize] = &[0, 1, 2, 3, 4, 51, 5, 52, 6, 53, 7, 8, 9, 10, 11, 12, 13, 42, 43, 50];
+const EXCHANGED: &[usize] = &[0, 54, 55, 56];
 
 /// How often each number was answered, for each call.
 #[derive(Clone)]
-struct Counts([[u64; 64]; 4]);
+struct Counts([[u64; 64]; CALLS.len()]);
 
 impl Counts {
     fn add(&mut self, other: &Counts) {
@@ -52,23 +56,26 @@ impl Counts {
             0 => CHECKED.contains(&number),
             1 => CHECKED.contains(&number) || CHECKED_STRICTLY.contains(&number),
             2 => RUN.contains(&number),
-            _ => LATENESS.contains(&number),
+            3 => LATENESS.contains(&number),
+            _ => EXCHANGED.contains(&number),
         }
     }
 
     fn print(&self) {
-        let row = |name: &str, cells: [String; 4]| {
-            println!("{name:>9} {:>9} {:>9} {:>9} {:>9}", cells[0], cells[1], cells[2], cells[3]);
+        let row = |name: &str, cells: [String; CALLS.len()]| {
+            let cells: String = cells.iter().map(|cell| format!(" {cell:>9}")).collect();
+            println!("{name:>9}{cells}");
         };
+        let calls = std::array::from_fn(|call| call);
         row("answer", CALLS.map(str::to_string));
         for number in 0..64 {
             let shown = |call: usize| self.0[call][number] > 0 || Counts::can_answer(call, number);
             let cell = |call: usize| if shown(call) { self.0[call][number].to_string() } else { "-".to_string() };
-            if (0..4).any(shown) {
-                row(&name(number), [0, 1, 2, 3].map(cell));
+            if calls.into_iter().any(shown) {
+                row(&name(number), calls.map(cell));
             }
         }
-        row("all", [0, 1, 2, 3].map(|call| self.0[call].iter().sum::<u64>().to_string()));
+        row("all", calls.map(|call| self.0[call].iter().sum::<u64>().to_string()));
     }
 
     /// What is wrong with the counts: an answer reached too seldom, or one that the call cannot give.
@@ -155,6 +162,30 @@ fn compare(case: &Case, counts: &mut Counts) -> Result<(), String> {
         Some(unrolled) => beside_the_unrolled(case, unrolled),
         None => Ok(()),
     }
+}
+
+const EXPORTS: Calls = Calls { stands: proved::stands, choose: proved::choose };
+
+/// The exports tell which wrapped record stands as the reference does, and as 02 says of every pair and file.
+fn compare_wrapped(case: &files::Case, counts: &mut Counts) -> Result<(), String> {
+    let (call, expected, answer) = match &case.given {
+        Given::Pair(first, second) => (4, exchange::stands(first, second), proved::stands(first, second)),
+        Given::File(file) => (5, exchange::choose(file), proved::choose(file)),
+    };
+    let text = || match &case.given {
+        Given::Pair(first, second) => format!("first {}\nsecond {}", hex(first), hex(second)),
+        Given::File(file) => format!("file {}", hex(file)),
+    };
+    if answer != expected.into() {
+        let kind = case.kind;
+        return Err(format!("{}: {kind}\n{}\nreference {expected:?}\nexport {answer:?}", CALLS[call], text()));
+    }
+    counts.0[call][answer.number as usize] += 1;
+    let claimed = match &case.given {
+        Given::Pair(first, second) => claims::of_pair(EXPORTS, first, second, answer),
+        Given::File(file) => claims::of_file(EXPORTS, file, answer),
+    };
+    claimed.map_err(|claim| format!("{}: {}\n{}\nnot so: {claim}\n{answer:?}", CALLS[call], case.kind, text()))
 }
 
 /// The exports answer and write the same for a page and for the record of version 1 of its unrolled model.
@@ -254,15 +285,17 @@ fn main() -> ExitCode {
     };
     let workers = thread::available_parallelism().map_or(1, |count| count.get() as u64);
     let stopped = AtomicBool::new(false);
-    let mut counts = Counts([[0; 64]; 4]);
+    let mut counts = Counts([[0; 64]; CALLS.len()]);
     let mut same = true;
     thread::scope(|scope| {
         let stopped = &stopped;
         let work = move |worker: u64| {
-            let mut counts = Counts([[0; 64]; 4]);
+            let mut counts = Counts([[0; 64]; CALLS.len()]);
             let mut number = first + worker;
             while number < end && !stopped.load(Ordering::Relaxed) {
-                if let Err(text) = compare(&cases::make(SEED, number), &mut counts) {
+                let compared = compare(&cases::make(SEED, number), &mut counts)
+                    .and_then(|()| compare_wrapped(&files::make(SEED, number), &mut counts));
+                if let Err(text) = compared {
                     if !stopped.swap(true, Ordering::Relaxed) {
                         println!("case {number}, {text}");
                     }
@@ -283,7 +316,7 @@ fn main() -> ExitCode {
     if !same {
         return ExitCode::FAILURE;
     }
-    println!("{} pairs without a difference", end - first);
+    println!("{0} pairs, and {0} pairs and files of wrapped models, without a difference", end - first);
     counts.print();
     // A part of the cases need not reach every answer.
     if word.contains("..") {
