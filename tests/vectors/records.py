@@ -46,6 +46,11 @@ def choice(chosen, durations, version=1):
     return record(version, head + pairs + b"".join(number(2, d) for d in durations))
 
 
+def wrapped(series, issue, flag, model_bytes):
+    """A model wrapped for exchange; flag: 1 for a withdrawn page, 0 for a live one."""
+    return record(1, number(4, series) + number(2, issue) + number(1, flag) + model_bytes)
+
+
 def put(bytes_, at, size, value):
     return bytes_[:at] + number(size, value) + bytes_[at + size :]
 
