@@ -111,9 +111,9 @@ no-other-records (w ∷ ws) h =
     ap recordsOf (chain-cons (length ws) (recordAt (w ∷ ws)))
     ∙ records-cons all (omega (arith, length-append w rest, size .0))
     ∙ ap₂ (λ (x : List ℕ) (xs : List (List ℕ)). x ∷ xs)
-        (ap (λ (n : ℕ). take n all) ended ∙ take-append-seam w rest)
-        (ap (λ (n : ℕ). recordsOf (drop n all)) ended ∙ ap recordsOf (drop-append-seam w rest)
-        ∙ no-other-records ws (λ k l. h (suc k) (omega (arith, l))))
+    (ap (λ (n : ℕ). take n all) ended ∙ take-append-seam w rest)
+    (ap (λ (n : ℕ). recordsOf (drop n all)) ended ∙ ap recordsOf (drop-append-seam w rest)
+    ∙ no-other-records ws (λ k l. h (suc k) (omega (arith, l))))
   where
     rest : List ℕ
     rest = chain (length ws) (recordAt ws)

@@ -44,8 +44,11 @@ above-all z x y h lower = ⊎-elim (λ l. inl (omega (arith, l, not-higher))) eq
     equal g = elim (decLt (issue x) (issue z)) [
       | yes l ↦ inl l
       | no l ↦ (let same : issue x ≡ issue z = omega (arith, l, not-higher, g .0) in
-          inr (same, (let not-above : ¬ (withdrawn y < withdrawn x) = λ b. lower (inr (g .0 ∙ sym same, b)) in
-          omega (arith, not-above, g .1))))
+          inr (
+            same,
+            (let not-above : ¬ (withdrawn y < withdrawn x) = λ b. lower (inr (g .0 ∙ sym same, b)) in
+                omega (arith, not-above, g .1)),
+          ))
     ]
 
 -- ---- the one that stands among the first k
@@ -213,11 +216,11 @@ walk ws (suc n) k r e s t =
     (turned-55 ws k r l s t)
     (turned-56 ws k r l s t)
     (λ h i j o.
-        walk ws n (k + 1) k (omega (arith, e)) (stands-new ws k r s (outranks-sound w x .0 o))
-        (taken-next ws k t (taken-beside ws k r s h i j)))
+    walk ws n (k + 1) k (omega (arith, e)) (stands-new ws k r s (outranks-sound w x .0 o))
+    (taken-next ws k t (taken-beside ws k r s h i j)))
     (λ h i j o.
-        walk ws n (k + 1) r (omega (arith, e)) (stands-old ws k r s (λ z. o (outranks-sound w x .1 z)))
-        (taken-next ws k t (taken-beside ws k r s h i j)))))
+    walk ws n (k + 1) r (omega (arith, e)) (stands-old ws k r s (λ z. o (outranks-sound w x .1 z)))
+    (taken-next ws k t (taken-beside ws k r s h i j)))))
 
 -- of every list
 pub answer-says : (ws : List (List ℕ)) → Says ws (standing ws)
@@ -340,12 +343,16 @@ stands-some ws (suc k) = after (stands-some ws k)
     after found = by (outranks w (recordAt ws (found .0))) (outranks-sound w (recordAt ws (found .0)))
       where
         by : (o : Bool) → T o ↔ Outranks w (recordAt ws (found .0)) → (r : ℕ) × StandsAmong ws (suc (suc k)) r
-        by true h =
-            (suc k, subst (λ (n : ℕ). StandsAmong ws n (suc k)) (add-one (suc k))
-            (stands-new ws (suc k) (found .0) (found .1) (h .0 tt)))
-        by false h =
-            (found .0, subst (λ (n : ℕ). StandsAmong ws n (found .0)) (add-one (suc k))
-            (stands-old ws (suc k) (found .0) (found .1) (h .1)))
+        by true h = (
+          suc k,
+          subst (λ (n : ℕ). StandsAmong ws n (suc k)) (add-one (suc k))
+              (stands-new ws (suc k) (found .0) (found .1) (h .0 tt)),
+        )
+        by false h = (
+          found .0,
+          subst (λ (n : ℕ). StandsAmong ws n (found .0)) (add-one (suc k))
+              (stands-old ws (suc k) (found .0) (found .1) (h .1)),
+        )
 
 -- all are of the first one's series
 series-of-first : (ws : List (List ℕ)) → ((k : ℕ) → k < length ws → Taken ws k)

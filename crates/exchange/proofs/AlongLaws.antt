@@ -177,7 +177,7 @@ start f e = record {
 left : (f : List ℕ) (x : Part) (index at : ℕ) → Along f x index at → Next f index at
     → standing (recordsOf f)
     ≡ along index (x .index) (take (x .length) (drop (x .offset) f))
-        (take (recordEnd (drop at f)) (drop at f) ∷ drop (index + 1) (recordsOf f))
+    (take (recordEnd (drop at f)) (drop at f) ∷ drop (index + 1) (recordsOf f))
 left f x index at h n =
     h .goes-on
     ∙ ap₂ (along index (x .index)) (h .bytes)

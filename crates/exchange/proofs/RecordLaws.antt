@@ -92,7 +92,7 @@ right-by w =
     by (leb 12 (length w) && eqb (field w 0 4) (length w)) (within 1 1 (field w 4 1)) (leb (withdrawn w) 1)
     (firstBreak (modelForm (wrapped w)))
     ∙ ap (λ (b : Bool). (leb 12 (length w) && eqb (field w 0 4) (length w)) && (b && (leb (withdrawn w) 1
-        && unbroken (firstBreak (modelForm (wrapped w)))))) (one-only (field w 4 1))
+    && unbroken (firstBreak (modelForm (wrapped w)))))) (one-only (field w 4 1))
   where
     by : (a b c : Bool) (rest : Option Refusal)
         → unbroken (unless a (unless b (unless c rest))) ≡ (a && (b && (c && unbroken rest)))

@@ -225,14 +225,13 @@ chosen-part f x e =
     let r : ℕ = x .index in
     let n : Next f r (offsetIn ws r) = at-offset f r (standing-lt ws r (from .0)) in
     let offset : offsetIn ws r ≡ x .offset = ap (λ (y : Part). y .offset) (from .1) in
-    let size : length (recordAt ws r) ≡ x .length = ap (λ (y : Part). y .length) (from .1) in
-    (
+    let size : length (recordAt ws r) ≡ x .length = ap (λ (y : Part). y .length) (from .1) in (
       from .0,
       (
         omega (arith, n .reached .in-file, n .measured, offset, size),
         handed-back ws r (from .0)
-        ∙ n .is
-        ∙ ap₂ (λ (i j : ℕ). take i (drop j f)) (sym (n .measured) ∙ size) offset,
+            ∙ n .is
+            ∙ ap₂ (λ (i j : ℕ). take i (drop j f)) (sym (n .measured) ∙ size) offset,
       ),
     )
 

@@ -215,9 +215,10 @@ placed-from offset ws x = by (standing ws)
   where
     by : (a : Answer ℕ) → placing offset ws a ≡ accepted x → (a ≡ accepted (x .index)) × (partOf offset ws (x .index) ≡ x)
     by (accepted r) e =
-        let same : partOf offset ws r ≡ x = cc in
-        (ap (λ (y : Part). accepted (y .index)) same,
-        subst (λ (y : Part). partOf offset ws (y .index) ≡ y) same refl)
+        let same : partOf offset ws r ≡ x = cc in (
+          ap (λ (y : Part). accepted (y .index)) same,
+          subst (λ (y : Part). partOf offset ws (y .index) ≡ y) same refl,
+        )
     by (refused y) e = absurd (no-pass y x e)
 
 pub refused-from : (offset : ℕ → ℕ) (ws : List (List ℕ)) (x : Refusal) → placed offset ws ≡ refused x

@@ -1,19 +1,27 @@
-// Both checks, the run, the held view, the splitter and the report on the stored cases. CASES.md says what each case shows.
+// Both checks, the run, the held view, the splitter, the report and the choice of wrapped records on the stored cases. CASES.md
+// says what each case shows.
 //
 // data/cases holds how many cases of the checks there are, then for each its model and its plan; then how many cases of
 // the run, and for each its model, its choice and the buffer that is lent; then how many cases of the view, and for each
 // its model, its plan and the tick; then how many cases of the splitter, and for each its input; then how many cases of the
-// report, and for each its model, its choice and how many rows are lent. Each record and input stands behind its length.
-// These numbers take 4 bytes each, the tick 8, big-endian. For each case a line with its number, then the lines that
-// gridcheck, gridrun or gridlate prints of it; of a run also the buffer afterwards, byte by byte in decimal; of a view what
-// its making answers, and its word, in decimal, or past; of the splitter the bytes of the two records; of a report also the
-// list afterwards.
+// report, and for each its model, its choice and how many rows are lent; then how many pairs of wrapped records, and for each
+// the two; then how many files of them, and for each the file. Each record, input and file stands behind its length. These
+// numbers take 4 bytes each, the tick 8, big-endian. For each case a line with its number, then the lines that gridcheck,
+// gridrun or gridlate prints of it; of a run also the buffer afterwards, byte by byte in decimal; of a view what its making
+// answers, and its word, in decimal, or past; of the splitter the bytes of the two records; of a report also the list
+// afterwards; of a pair which one stands and of a file which record is chosen, from which byte on and how many, or the
+// refusal, and the bytes that are handed back.
 use libc::STDOUT_FILENO;
 use numbers::refusal_numbers;
 use numbers::smaller;
+use numbers::wrap_number;
 use records::Pass;
+use schedule::Chosen;
+use schedule::Part;
 use schedule::Refusal;
+use schedule::Standing;
 use schedule::WordAt;
+use schedule::WrapRefusal;
 ghost use Rattle.io.specs.Counts.{Counts};
 
 // The kinds of cases, in the order of the file.
@@ -23,6 +31,8 @@ enum Kind {
     View,
     Split,
     Report,
+    Pair,
+    File,
 }
 
 // The next number of the file, 0 past its end.
@@ -219,6 +229,68 @@ fn next_report(fd: i32) {
     print_report(&model[..m], &choice[..c], &mut rows[..lent]);
 }
 
+// Prints a number behind a space.
+fn print_size(x: usize) {
+    io::write_all(STDOUT_FILENO, b" ");
+    io::print_decimal(STDOUT_FILENO, x as u64);
+}
+
+// Prints a refusal of wrapped records at a record.
+fn print_wrap_refused(why: WrapRefusal, a: usize) {
+    io::write_all(STDOUT_FILENO, b"refused ");
+    io::print_decimal(STDOUT_FILENO, wrap_number(why) as u64);
+    print_size(a);
+    io::write_all(STDOUT_FILENO, b" 0\n");
+}
+
+// Prints which of two wrapped records stands.
+fn print_standing(found: Standing) {
+    match found {
+        Standing::First => {
+            io::write_all(STDOUT_FILENO, b"stands first\n");
+        }
+        Standing::Second => {
+            io::write_all(STDOUT_FILENO, b"stands second\n");
+        }
+        Standing::Refused(why, a) => print_wrap_refused(why, a),
+    }
+}
+
+// Prints the number of a record, its first byte and how many it has.
+fn print_part(x: Part) {
+    io::write_all(STDOUT_FILENO, b"chosen");
+    print_size(x.index);
+    print_size(x.offset);
+    print_size(x.length);
+    io::write_all(STDOUT_FILENO, b"\n");
+}
+
+// Prints which record of a file is chosen.
+fn print_chosen(found: Chosen) {
+    match found {
+        Chosen::Record(x) => print_part(x),
+        Chosen::Refused(why, a) => print_wrap_refused(why, a),
+    }
+}
+
+// Reads the next pair of wrapped records and prints which one stands and what is handed back.
+fn next_pair(fd: i32) {
+    let mut first = [0u8; 1024];
+    let mut second = [0u8; 1024];
+    let f = next_record(fd, &mut first);
+    let s = next_record(fd, &mut second);
+    print_standing(exchange::which(&first[..f], &second[..s]));
+    print_bytes(b"part", exchange::stands(&first[..f], &second[..s]));
+}
+
+// Reads the next file of wrapped records and prints which one is chosen and what is handed back.
+fn next_file(fd: i32) {
+    let mut file = [0u8; 1024];
+    let n = next_record(fd, &mut file);
+    print_chosen(exchange::choose(&file[..n]));
+    print_bytes(b"part", exchange::chosen(&file[..n]));
+}
+
 // Reads the next case of a kind and prints what its call answers.
 fn next(fd: i32, kind: Kind) {
     match kind {
@@ -227,6 +299,8 @@ fn next(fd: i32, kind: Kind) {
         Kind::View => next_view(fd),
         Kind::Split => next_split(fd),
         Kind::Report => next_report(fd),
+        Kind::Pair => next_pair(fd),
+        Kind::File => next_file(fd),
     }
 }
 
@@ -252,5 +326,7 @@ fn main() {
     all(fd, Kind::View);
     all(fd, Kind::Split);
     all(fd, Kind::Report);
+    all(fd, Kind::Pair);
+    all(fd, Kind::File);
     libc::close(fd);
 }

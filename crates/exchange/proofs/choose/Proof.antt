@@ -72,8 +72,11 @@ add-at : tie.Need-add-at Inv-loop μ-loop
 add-at c =
     let c8 = c .before .before .before .before .before .before .before .before in
     let l = c8 .before .before .loop in
-    omega (arith, ends-inside (c .before .before .before .before .before .before .before .before .before .before .before .before .before .before .before .before .args .file .now) _ (l .index) (l .at) (c8 .record-at2 .ensures) (c8 .before .loop-test .taken),
-    c .before .before .before .before .before .before .before .before .before .before .before .before .before .before .before .before .good .0)
+    omega (
+      arith,
+      ends-inside (c .before .before .before .before .before .before .before .before .before .before .before .before .before .before .before .before .args .file .now) _ (l .index) (l .at) (c8 .record-at2 .ensures) (c8 .before .loop-test .taken),
+      c .before .before .before .before .before .before .before .before .before .before .before .before .before .before .before .before .good .0,
+    )
 
 add-index : tie.Need-add-index Inv-loop μ-loop
 add-index c =

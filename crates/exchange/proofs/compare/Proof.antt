@@ -21,8 +21,11 @@ returns-2 : tie.Need-returns-2
 returns-2 c =
     let c3 = c .before .before .before in
     let x = c3 .before .before .before .args in
-    rw (compared-by (x .x .now) (x .w .now), told-yes (c3 .wrapper-holds .ensures) (c .before .before .if1 .left),
-    told-no (c .before .series-holds .ensures) (c .if2 .taken)) refl
+    rw (
+      compared-by (x .x .now) (x .w .now),
+      told-yes (c3 .wrapper-holds .ensures) (c .before .before .if1 .left),
+      told-no (c .before .series-holds .ensures) (c .if2 .taken),
+    ) refl
 
 copy-holds-requires : tie.Need-copy-holds-requires
 copy-holds-requires c κs = search needs
@@ -32,8 +35,12 @@ returns-3 c =
     let c3 = c .before .before .before in
     let c5 = c3 .before .before in
     let x = c5 .before .before .before .args in
-    rw (compared-by (x .x .now) (x .w .now), told-yes (c5 .wrapper-holds .ensures) (c3 .before .if1 .left),
-    told-yes (c3 .series-holds .ensures) (c .before .before .if2 .left), told-no (c .before .copy-holds .ensures) (c .if3 .taken)) refl
+    rw (
+      compared-by (x .x .now) (x .w .now),
+      told-yes (c5 .wrapper-holds .ensures) (c3 .before .if1 .left),
+      told-yes (c3 .series-holds .ensures) (c .before .before .if2 .left),
+      told-no (c .before .copy-holds .ensures) (c .if3 .taken),
+    ) refl
 
 outranks-requires : tie.Need-outranks-requires
 outranks-requires c κs = search needs

@@ -25,8 +25,14 @@ returns-2 : tie.Need-returns-2
 unfolding copyRule
 returns-2 c =
     let c3 = c .before .before .before in
-    simp (← c3 .before .before .series .ensures, ← c3 .before .series2 .ensures, eq-eqb _ _ (c3 .if1 .left),
-    ← c .before .before .issue .ensures, ← c .before .issue2 .ensures, ne-eqb _ _ (c .if2 .taken))
+    simp (
+      ← c3 .before .before .series .ensures,
+      ← c3 .before .series2 .ensures,
+      eq-eqb _ _ (c3 .if1 .left),
+      ← c .before .before .issue .ensures,
+      ← c .before .issue2 .ensures,
+      ne-eqb _ _ (c .if2 .taken),
+    )
 
 withdrawn-requires : tie.Need-withdrawn-requires
 withdrawn-requires c κs = search needs
@@ -39,9 +45,17 @@ unfolding copyRule
 returns-3 c =
     let c3 = c .before .before .before in
     let c6 = c3 .before .before .before in
-    simp (← c6 .before .before .series .ensures, ← c6 .before .series2 .ensures, eq-eqb _ _ (c6 .if1 .left),
-    ← c3 .before .before .issue .ensures, ← c3 .before .issue2 .ensures, eq-eqb _ _ (c3 .if2 .left),
-    ← c .before .before .withdrawn .ensures, ← c .before .withdrawn2 .ensures, ne-eqb _ _ (c .if3 .taken))
+    simp (
+      ← c6 .before .before .series .ensures,
+      ← c6 .before .series2 .ensures,
+      eq-eqb _ _ (c6 .if1 .left),
+      ← c3 .before .before .issue .ensures,
+      ← c3 .before .issue2 .ensures,
+      eq-eqb _ _ (c3 .if2 .left),
+      ← c .before .before .withdrawn .ensures,
+      ← c .before .withdrawn2 .ensures,
+      ne-eqb _ _ (c .if3 .taken),
+    )
 
 same-requires : tie.Need-same-requires
 same-requires c κs = search needs
@@ -52,9 +66,18 @@ returns-4 c =
     let c1 = c .before in
     let c4 = c1 .before .before .before in
     let c7 = c4 .before .before .before in
-    simp (← c7 .before .before .series .ensures, ← c7 .before .series2 .ensures, eq-eqb _ _ (c7 .if1 .left),
-    ← c4 .before .before .issue .ensures, ← c4 .before .issue2 .ensures, eq-eqb _ _ (c4 .if2 .left),
-    ← c1 .before .before .withdrawn .ensures, ← c1 .before .withdrawn2 .ensures, eq-eqb _ _ (c1 .if3 .left), c .same .ensures)
+    simp (
+      ← c7 .before .before .series .ensures,
+      ← c7 .before .series2 .ensures,
+      eq-eqb _ _ (c7 .if1 .left),
+      ← c4 .before .before .issue .ensures,
+      ← c4 .before .issue2 .ensures,
+      eq-eqb _ _ (c4 .if2 .left),
+      ← c1 .before .before .withdrawn .ensures,
+      ← c1 .before .withdrawn2 .ensures,
+      eq-eqb _ _ (c1 .if3 .left),
+      c .same .ensures,
+    )
 
 pub copy-holds-spec : {M : Type 1} → statement M
 copy-holds-spec =

@@ -43,9 +43,10 @@ loop-less c = search needs
 loop-again : tie.Need-loop-again Inv-loop μ-loop
 loop-again c =
     let l = c .before .before .before .before .loop in
-    let x = c .before .before .before .before .before .before .args in
-    ((omega arith, l .inv .0 .1),
-    l .inv .1 ∙ same-step (x .x .now) (x .y .now) (l .i) (omega arith) (omega (arith, l .inv)) ∙ rw (eq-eqb _ _ (c .if2 .left)) refl)
+    let x = c .before .before .before .before .before .before .args in (
+      (omega arith, l .inv .0 .1),
+      l .inv .1 ∙ same-step (x .x .now) (x .y .now) (l .i) (omega arith) (omega (arith, l .inv)) ∙ rw (eq-eqb _ _ (c .if2 .left)) refl,
+    )
 
 returns-3 : tie.Need-returns-3 Inv-loop μ-loop
 returns-3 c =
