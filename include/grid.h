@@ -1,6 +1,6 @@
-/* The four calls of the grid checker.
+/* The six calls of the grid checker.
  *
- * Every record and the buffer is passed as a pointer and the number of bytes, and the list `rows` as a pointer and the
+ * Every record, file and the buffer is passed as a pointer and the number of bytes, and the list `rows` as a pointer and the
  * number of its rows, each an int32_t. No pointer may be null, even where the number is 0. `rows` is aligned as int32_t is;
  * no other pointer has to be aligned. The two records may overlap; neither `out` nor `rows` overlaps one of them. Only
  * grid_run and grid_lateness write, the one only into `out` and the other only into `rows`; with 16,553 bytes `out` is
@@ -52,6 +52,31 @@ GridAnswer grid_run(const uint8_t *model, size_t model_length,
 GridAnswer grid_lateness(const uint8_t *model, size_t model_length,
                          const uint8_t *choice, size_t choice_length,
                          int32_t *rows, size_t rows_length);
+
+/* Of wrapped records, models behind 12 bytes: the length of it all (4 bytes, the most significant first), version 1, the
+ * series (4), the issue (2), and 1 for withdrawn or 0 for live.
+ * number 0: the record numbered `record`, from 0, stands; its first byte in its argument is byte `offset`, and it has
+ * `length` bytes. Otherwise number is that of the refusal, and record its A, the record that was tried; offset and length are
+ * 0. zero is always 0. */
+typedef struct GridPart {
+    uint32_t number;
+    uint32_t zero;
+    uint64_t record;
+    uint64_t offset;
+    uint64_t length;
+} GridPart;
+
+/* Which of two wrapped records stands: of one series the higher issue, at equal issue the withdrawn one over the live one,
+ * and the first where both are equal; `offset` is 0. 54 for record 0, then 54 for record 1 where a wrapper's length is not
+ * the bytes given or is under 12, its version or its flag is wrong or its model is refused; then 55 for two series, and 56
+ * for equal series, issue and flag with other bytes, both with record 1. */
+GridPart grid_stands(const uint8_t *first, size_t first_length,
+                     const uint8_t *second, size_t second_length);
+
+/* Which record stands of a file, wrapped records end to end: each is tried against the one standing so far, by 54, then 55,
+ * then 56, and the first refusal is the answer. 54 is also for an empty file and for a wrapper whose length cannot be read or
+ * goes past the end of the file. */
+GridPart grid_choose(const uint8_t *file, size_t file_length);
 
 #ifdef __cplusplus
 }

@@ -1,9 +1,9 @@
-/* The four calls of include/grid.h on model S, with its records read from samples/.
+/* The six calls of include/grid.h on model S, with its records read from samples/.
  *
  * usage: calls FOLDER
  *
  * FOLDER has S.model, S.plan, S-early.plan and S.choice. Each answer, every byte of the lent buffer and every row of the
- * lent list are compared with the paper's; the first difference ends the program with a message and status 1.
+ * lent list are compared with the papers'; the first difference ends the program with a message and status 1.
  */
 #include "grid.h"
 
@@ -13,6 +13,7 @@
 
 enum {
     PLAN = 61,    /* the bytes of S's plan */
+    WRAPPER = 12, /* the bytes in front of a wrapped model */
     MOST = 256,   /* room for any of the samples */
     ROWS = 32,    /* the rows of a list that suffices */
     LIST = 64,    /* room for any of the lists */
@@ -128,6 +129,85 @@ static void lateness(const char *what, const Record *model, const Record *choice
     }
 }
 
+/* A model wrapped as an issue of series 7. */
+static Record wrapped(const Record *model, uint8_t issue, uint8_t withdrawn)
+{
+    const uint8_t head[WRAPPER] = {0, 0, 0, (uint8_t)(WRAPPER + model->length), 1, 0, 0, 0, 7, 0, issue, withdrawn};
+    Record made = {0};
+
+    memcpy(made.bytes, head, WRAPPER);
+    memcpy(made.bytes + WRAPPER, model->bytes, model->length);
+    made.length = WRAPPER + model->length;
+    return made;
+}
+
+/* Two records end to end. */
+static Record joined(const Record *first, const Record *second)
+{
+    Record made = *first;
+
+    memcpy(made.bytes + first->length, second->bytes, second->length);
+    made.length = first->length + second->length;
+    return made;
+}
+
+static void part(const char *what, GridPart answer, uint32_t number, uint64_t record, uint64_t offset, uint64_t length)
+{
+    if (answer.number != number || answer.zero != 0 || answer.record != record || answer.offset != offset
+        || answer.length != length) {
+        fprintf(stderr, "calls: %s: expected %u 0 %lu %lu %lu\n", what, (unsigned)number, (unsigned long)record,
+                (unsigned long)offset, (unsigned long)length);
+        fprintf(stderr, "calls: %s: answered %u %u %lu %lu %lu\n", what, (unsigned)answer.number, (unsigned)answer.zero,
+                (unsigned long)answer.record, (unsigned long)answer.offset, (unsigned long)answer.length);
+        exit(1);
+    }
+    done++;
+}
+
+static GridPart stands(const Record *first, const Record *second)
+{
+    return grid_stands(first->bytes, first->length, second->bytes, second->length);
+}
+
+static GridPart chosen(const Record *file)
+{
+    return grid_choose(file->bytes, file->length);
+}
+
+/* Which wrapped record stands, in pairs and in files. */
+static void exchange(const Record *model)
+{
+    const Record live = wrapped(model, 1, 0), gone = wrapped(model, 1, 1), newer = wrapped(model, 2, 0);
+    const uint64_t length = live.length;
+    Record altered = live, file;
+
+    part("live, then withdrawn", stands(&live, &gone), 0, 1, 0, length);
+    part("withdrawn, then live", stands(&gone, &live), 0, 0, 0, length);
+    part("a higher issue", stands(&gone, &newer), 0, 1, 0, length);
+    part("equal copies", stands(&live, &live), 0, 0, 0, length);
+    altered.bytes[8] = 8;
+    part("another series", stands(&live, &altered), 55, 1, 0, 0);
+    altered = live;
+    altered.bytes[WRAPPER + 19] = 6; /* the priority of thread 0 */
+    part("other bytes", stands(&live, &altered), 56, 1, 0, 0);
+    altered = live;
+    altered.bytes[11] = 2;
+    part("a flag of 2", stands(&altered, &live), 54, 0, 0, 0);
+    part("a flag of 2 behind", stands(&live, &altered), 54, 1, 0, 0);
+    altered = live;
+    altered.length -= 1;
+    part("a byte too few", stands(&live, &altered), 54, 1, 0, 0);
+
+    file = joined(&live, &gone);
+    part("a file of two", chosen(&file), 0, 1, length, length);
+    file = joined(&gone, &live);
+    part("a file of two, withdrawn first", chosen(&file), 0, 0, 0, length);
+    file.length -= 1;
+    part("a file that ends too early", chosen(&file), 54, 1, 0, 0);
+    file.length = 0;
+    part("an empty file", chosen(&file), 54, 0, 0, 0);
+}
+
 int main(int count, char **words)
 {
     static const uint8_t zeros[PLAN];
@@ -184,6 +264,8 @@ int main(int count, char **words)
     choice.bytes[14] = 5;
     run("a chosen period of 5", &other, &choice, PLAN, refused(43, 2, 0), zeros, PLAN);
     lateness("a chosen period of 5 for the report", &other, &choice, ROWS, refused(43, 2, 0), late_rows, 3);
+
+    exchange(&model);
 
     printf("calls: %d answers as expected\n", done);
     return 0;

@@ -1,14 +1,15 @@
 //! Times the exports against the reference.
 //!
-//! `bench` prints the table. `bench CALL WHICH PAGE HORIZON TIMES` makes one call many times, for a profiler: CALL is
-//! plain, strict, run or lateness, WHICH is proved or reference, PAGE is a name from the table.
+//! `bench` prints the tables. `bench CALL WHICH PAGE HORIZON TIMES` makes one call many times, for a profiler: CALL is
+//! plain, strict, run or lateness, WHICH is proved or reference, PAGE is a name from the table. `bench choose WHICH FILE
+//! RECORDS TIMES` does so with a file of wrapped models: FILE is copies or issues.
 
 use std::hint::black_box;
 use std::process::ExitCode;
 use std::time::{Duration, Instant};
 
-use grid_tests::records::{ActivityRow, Choice, Model, Rounds, ThreadRow};
-use grid_tests::{proved, reference, Answer};
+use grid_tests::records::{ActivityRow, Choice, Model, Rounds, ThreadRow, Wrapped};
+use grid_tests::{exchange, proved, reference, Answer, Part};
 
 /// A page with its records; the plan is the run's own, so that all four calls accept.
 struct Page {
@@ -193,6 +194,25 @@ fn written(model: &Model, choice: &Choice) -> Page {
     Page { model, choice, plan }
 }
 
+/// Files of the largest version 1 model, wrapped: copies of one record, or issues that rise, so that each record stands
+/// until the next.
+const FILES: [&str; 2] = ["copies", "issues"];
+const RECORDS: [usize; 4] = [1, 10, 100, 1000];
+
+fn file(name: &str, records: usize) -> Vec<u8> {
+    let model = shaped(GROWING, 4096).model;
+    let issue = |r| if name == "issues" { r as u16 } else { 1 };
+    let record = |r| Wrapped { series: 7, issue: issue(r), withdrawn: 0, model: model.clone() }.bytes();
+    (0..records).flat_map(record).collect()
+}
+
+fn choose(which: &str, file: &[u8]) -> Part {
+    match which {
+        "proved" => proved::choose(black_box(file)),
+        _ => exchange::choose(black_box(file)).into(),
+    }
+}
+
 const CALLS: [&str; 4] = ["plain", "strict", "run", "lateness"];
 const SIDES: [&str; 2] = ["proved", "reference"];
 
@@ -214,23 +234,30 @@ fn call(call: &str, which: &str, page: &Page, out: &mut [u8]) -> Answer {
 
 /// Microseconds of one call on each side: the least mean of many short rounds, both sides taking turns, so that other
 /// work on the machine hardly shows.
-fn time(name: &str, page: &Page) -> [f64; 2] {
+fn least(mut once: impl FnMut(&str)) -> [f64; 2] {
     const ROUNDS: usize = 150;
     const ROUND: Duration = Duration::from_micros(500);
-    let mut out = vec![0; page.plan.len()];
     let mut least = [f64::INFINITY; 2];
     for _ in 0..ROUNDS {
         for (side, which) in SIDES.iter().enumerate() {
             let begin = Instant::now();
             let mut calls = 0;
             while begin.elapsed() < ROUND {
-                let answer = black_box(call(name, which, page, &mut out));
-                assert_eq!(answer.number, 0, "{name} of the {which} refused a page");
+                once(which);
                 calls += 1;
             }
             least[side] = least[side].min(begin.elapsed().as_secs_f64() * 1e6 / f64::from(calls));
         }
     }
+    least
+}
+
+fn time(name: &str, page: &Page) -> [f64; 2] {
+    let mut out = vec![0; page.plan.len()];
+    let least = least(|which| {
+        let answer = black_box(call(name, which, page, &mut out));
+        assert_eq!(answer.number, 0, "{name} of the {which} refused a page");
+    });
     assert!(out == page.plan || name != "run", "the run wrote another plan");
     least
 }
@@ -264,6 +291,25 @@ fn table() {
         }
     }
     println!();
+    println!("a file of wrapped models of 582 bytes each: microseconds, and nanoseconds for each record");
+    println!(
+        "{:<8} {:>7}  {:>10} {:>10} {:>6} {:>14} {:>12}",
+        "file", "records", SIDES[0], SIDES[1], "ratio", "proved/record", "ref./record"
+    );
+    for name in FILES {
+        for records in RECORDS {
+            let file = file(name, records);
+            let [ours, theirs] = least(|which| assert_eq!(black_box(choose(which, &file)).number, 0));
+            let record = 1000.0 / records as f64;
+            println!(
+                "{name:<8} {records:>7}  {ours:>10.2} {theirs:>10.2} {:>6.2} {:>14.1} {:>12.1}",
+                ours / theirs,
+                ours * record,
+                theirs * record
+            );
+        }
+    }
+    println!();
     for shape in SHAPES {
         let (cores, threads, activities) = (shape.cores, shape.threads, shape.activities);
         println!("{}: {}; cores {cores}, threads {threads}, activities {activities}", shape.name, shape.what);
@@ -279,8 +325,17 @@ fn repeat(words: &[String]) -> Option<()> {
     };
     let horizon: usize = horizon.parse().ok()?;
     let times: u32 = times.parse().ok()?;
+    if !SIDES.contains(&which.as_str()) {
+        return None;
+    }
+    if name == "choose" && FILES.contains(&page_name.as_str()) {
+        let file = file(page_name, horizon);
+        for _ in 0..times {
+            black_box(choose(which, &file));
+        }
+        return Some(());
+    }
     let known = CALLS.contains(&name.as_str())
-        && SIDES.contains(&which.as_str())
         && PAGES.iter().any(|&(page, _)| page == page_name)
         && (8..=4096).contains(&horizon);
     if !known {
@@ -300,6 +355,7 @@ fn main() -> ExitCode {
         table();
     } else if repeat(&words).is_none() {
         eprintln!("usage: bench [plain|strict|run|lateness proved|reference PAGE HORIZON TIMES]");
+        eprintln!("       bench [choose proved|reference FILE RECORDS TIMES]");
         return ExitCode::from(2);
     }
     ExitCode::SUCCESS
