@@ -4,8 +4,8 @@ use Prim.Native.Nat.{ℕ, zero, suc, _≤_}
 use native.Mathlib.Omega.{arith}
 use mathlib.Core.List.{List, [], _∷_, _++_, append-nil, append-assoc}
 use mathlib.Core.Logic.{_↔_, ⊎-elim}
-use mathlib.Core.Path.{_≡_, refl, sym, subst, ap, ap₂, _∙_}
-use lib.ListN.{length, take, drop, length-drop, length-append}
+use mathlib.Core.Path.{_≡_, sym, subst, ap, ap₂, _∙_}
+use lib.ListN.{length, take, drop, length-append}
 use lib.Seq.{length-take-le, take-length, take-append-seam, drop-append-seam}
 use Rattle.schedule.specs.Bounded.{chain}
 use Rattle.schedule.specs.Fields.{field}

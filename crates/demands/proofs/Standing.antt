@@ -12,14 +12,13 @@ use mathlib.Core.Path.{_≡_, refl, sym, subst, ap, _∙_}
 use lib.Dec.{T}
 use lib.ListN.{length, drop, drop-of-length-le}
 use lib.Seq.{drop-cons}
-use Rattle.schedule.specs.Rule.{Refusal, AllHold}
+use Rattle.schedule.specs.Rule.{Refusal}
 use Rattle.schedule.specs.Answers.{Answer, accepted, refused}
 use Rattle.schedule.specs.Exchange.{series, issue, withdrawn, flagRule, wrapperForm}
 use Rattle.schedule.specs.Exchange.{Outranks, outranks, along, standing, recordAt}
-use Rattle.laws.proofs.VerdictLaws.{accepted-is-not-refused}
 use Rattle.laws.proofs.WrappedLaws.{outranks-sound, right-sound, series-sound, copy-sound}
 use Rattle.laws.proofs.WrappedLaws.{isRight, oneSeries, noOther, turned, by-tests, along-step, standing-first}
-use Rattle.demands.specs.Exchange.{StandsAmong, IsRight, Taken, IsChosen, PassedOver, IsRefused}
+use Rattle.demands.specs.Exchange.{StandsAmong, IsRight, Taken, IsChosen, IsRefused}
 use Rattle.demands.specs.Exchange.{TurnedAway, nothing, wrapper, two-series, other-bytes}
 use Rattle.demands.specs.Exchange.{OneStands, OthersPassedOver}
 

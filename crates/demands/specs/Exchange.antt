@@ -2,14 +2,14 @@
 -- those passed over, and where a refusal comes from. The theorem speaks of ranks and places, and of no walk along the file.
 -- Assumes nothing.
 use Prim.Native.Nat.{ℕ, _+_, _≤_, _<_}
-use mathlib.Core.List.{List, [], _∷_}
+use mathlib.Core.List.{List, []}
 use mathlib.Core.Logic.{_⊎_, _↔_}
 use mathlib.Core.Path.{_≡_}
 use lib.ListN.{length, take, drop}
 use Rattle.schedule.specs.Bounded.{chain}
 use Rattle.schedule.specs.Fields.{field}
 use Rattle.schedule.specs.Rule.{Refusal, AllHold}
-use Rattle.schedule.specs.Answers.{Answer, accepted, refused, MeetsForm}
+use Rattle.schedule.specs.Answers.{accepted, refused, MeetsForm}
 use Rattle.schedule.specs.Exchange.{series, issue, withdrawn, wrapperForm, Outranks, standing, recordAt, Part}
 use Rattle.schedule.specs.Exchange.{recordsOf, offsetIn, fileAnswer, fileBytes}
 

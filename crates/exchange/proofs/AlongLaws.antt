@@ -7,6 +7,7 @@ use native.Mathlib.Numerals.{add-one}
 use native.Mathlib.Omega.{arith}
 use mathlib.Core.Bool.{Bool, true, false, _&&_, cond}
 use mathlib.Core.List.{List, [], _∷_}
+use mathlib.Core.Option.{Option, some, none}
 use mathlib.Core.Path.{_≡_, refl, sym, subst, ap, ap₂, _∙_}
 use borrow.Author.Tests.{leb-true}
 use lib.Dec.{leb}
@@ -20,12 +21,12 @@ use Rattle.schedule.specs.Numbers.{wrapNumbers, partNumbers}
 use Rattle.schedule.specs.declared.Part.{Part}
 use Rattle.schedule.specs.declared.WrapRefusal.{WrapRefusal}
 use Rattle.laws.proofs.VerdictLaws.{accepted-is-not-refused}
-use Rattle.laws.proofs.WrappedLaws.{isRight, oneSeries, noOther, turned, byTests, along-step, standing-first}
+use Rattle.laws.proofs.WrappedLaws.{isRight, turned, onwards, standing-first}
 use Rattle.laws.proofs.WrappedLaws.{handed-back, nothing-back, partOf, placed-accepted, placed-refused}
 use Rattle.laws.proofs.FileRecords.{end-le, end-above, records-cons, records-none, Reached, reached-start, Next, next, none-left}
 use Rattle.exchange.specs.declared.Compared.{Compared}
 use Rattle.exchange.specs.Compares.{comparedNumbers}
-use Rattle.exchange.proofs.RecordLaws.{right-by, compared-by}
+use Rattle.exchange.proofs.RecordLaws.{right-by}
 
 -- ---- a step
 
@@ -35,40 +36,31 @@ Beside x w found = comparedNumbers found ≡ answer (firstBreak (recordRules x w
 
 pub along-refused : (k r : ℕ) (x w : List ℕ) (ws : List (List ℕ)) (found : Compared) (why : WrapRefusal)
     → Beside x w found → found ≡ Compared.Refused why → along k r x (w ∷ ws) ≡ refused (wrapNumbers why k)
+unfolding along answer
 along-refused k r x w ws found why h e =
-    along-step k r x w ws
-    ∙ by (isRight w) (oneSeries x w) (noOther x w) (outranks w x) (along (k + 1) k w ws) (along (k + 1) r x ws)
-    (sym (compared-by x w) ∙ sym h ∙ ap comparedNumbers e)
+    by (firstBreak (recordRules x w)) (outranks w x) (along (k + 1) k w ws) (along (k + 1) r x ws)
+    (sym h ∙ ap comparedNumbers e)
   where
-    placed : (number : ℕ) → _≡_ {A = Answer Bool} (turned number 0) (refused (wrapNumbers why 0))
-        → _≡_ {A = Answer ℕ} (turned number k) (refused (wrapNumbers why k))
-    placed number e =
-        let same : record { number = number; A = 0; B = 0 } ≡ wrapNumbers why 0 = cc in
+    by : (o : Option Refusal) (above : Bool) (new old : Answer ℕ) → answer o above ≡ refused (wrapNumbers why 0)
+        → onwards o above k new old ≡ refused (wrapNumbers why k)
+    by none above new old e = absurd (accepted-is-not-refused above (wrapNumbers why 0) e)
+    by (some y) above new old e =
+        let same : y ≡ wrapNumbers why 0 = cc in
         ap (λ (z : Refusal). refused (atRecord k z)) same
-
-    by : (a b c o : Bool) (new old : Answer ℕ) → byTests a b c o 0 (accepted true) (accepted false) ≡ refused (wrapNumbers why 0)
-        → byTests a b c o k new old ≡ refused (wrapNumbers why k)
-    by false b c o new old e = placed 54 e
-    by true false c o new old e = placed 55 e
-    by true true false o new old e = placed 56 e
-    by true true true true new old e = absurd (accepted-is-not-refused true (wrapNumbers why 0) e)
-    by true true true false new old e = absurd (accepted-is-not-refused false (wrapNumbers why 0) e)
 
 pub along-taken : (k r : ℕ) (x w : List ℕ) (ws : List (List ℕ)) (found : Compared) (above : Bool)
     → Beside x w found → found ≡ Compared.Taken above
     → along k r x (w ∷ ws) ≡ cond above (along (k + 1) k w ws) (along (k + 1) r x ws)
+unfolding along answer
 along-taken k r x w ws found above h e =
-    along-step k r x w ws
-    ∙ by (isRight w) (oneSeries x w) (noOther x w) (outranks w x) (along (k + 1) k w ws) (along (k + 1) r x ws)
-    (sym (compared-by x w) ∙ sym h ∙ ap comparedNumbers e)
+    by (firstBreak (recordRules x w)) (outranks w x) (along (k + 1) k w ws) (along (k + 1) r x ws)
+    (sym h ∙ ap comparedNumbers e)
   where
-    by : (a b c o : Bool) (new old : Answer ℕ) → byTests a b c o 0 (accepted true) (accepted false) ≡ accepted above
-        → byTests a b c o k new old ≡ cond above new old
-    by false b c o new old e = absurd (accepted-is-not-refused above _ (sym e))
-    by true false c o new old e = absurd (accepted-is-not-refused above _ (sym e))
-    by true true false o new old e = absurd (accepted-is-not-refused above _ (sym e))
-    by true true true true new old e = let same : true ≡ above = cc in ap (λ (b : Bool). cond b new old) same
-    by true true true false new old e = let same : false ≡ above = cc in ap (λ (b : Bool). cond b new old) same
+    by : (o : Option Refusal) (b : Bool) (new old : Answer ℕ) → answer o b ≡ accepted above
+        → onwards o b k new old ≡ cond above new old
+    by none true new old e = let same : true ≡ above = cc in ap (λ (b : Bool). cond b new old) same
+    by none false new old e = let same : false ≡ above = cc in ap (λ (b : Bool). cond b new old) same
+    by (some y) b new old e = absurd (accepted-is-not-refused above y (sym e))
 
 -- ---- a pair
 
@@ -218,7 +210,9 @@ step-taken f x index at h l found above b e = by above (along-taken index (x .in
     further : index + 1 ≤ at + recordEnd (drop at f)
     further = omega (arith, h .few, end-above (drop at f) (omega (arith, length-drop at f, l)))
 
-    by : (above : Bool) → along index (x .index) X (W ∷ more) ≡ cond above (along (index + 1) index W more) (along (index + 1) (x .index) X more)
+    by : (above : Bool)
+        → along index (x .index) X (W ∷ more)
+        ≡ cond above (along (index + 1) index W more) (along (index + 1) (x .index) X more)
         → Along f (cond above (partAt f index at) x) (index + 1) (at + recordEnd (drop at f))
     by true step = record {
       here = n .reached;
@@ -259,7 +253,8 @@ starts f x w e d r =
     subst (λ (y : Part). Along f y 1 (y .length)) (sym e)
     (start f (subst (λ (v : List ℕ). isRight v ≡ true) (d ∙ ap (bytesAt f) e) r))
 
-pub inside : (f : List ℕ) (x : Part) (index at : ℕ) → x ≡ partAt f index at → at ≤ length f → x .offset + x .length ≤ length f
+pub inside : (f : List ℕ) (x : Part) (index at : ℕ) → x ≡ partAt f index at → at ≤ length f
+    → x .offset + x .length ≤ length f
 inside f x index at e l =
     subst (λ (y : Part). y .offset + y .length ≤ length f) (sym e)
     (omega (arith, l, end-le (drop at f), length-drop at f))

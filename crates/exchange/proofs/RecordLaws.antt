@@ -4,14 +4,14 @@ use Prim.Native.Nat.{ℕ, suc, _+_, _-_, _≤_, _<_}
 use native.Mathlib.Decide.{decLt, ℕ-discrete}
 use native.Mathlib.Numerals.{add-one}
 use native.Mathlib.Omega.{arith}
-use mathlib.Core.Bool.{Bool, true, false, not, _&&_, _||_, cond}
+use mathlib.Core.Bool.{Bool, true, false, _&&_, _||_, cond}
 use mathlib.Core.List.{List, [], _∷_}
 use mathlib.Core.Option.{Option, some, none}
-use mathlib.Core.Path.{_≡_, refl, sym, subst, ap, ap₂, _∙_}
-use lib.Dec.{T, eqb, leb, ltb}
+use mathlib.Core.Path.{_≡_, refl, sym, subst, ap, _∙_}
+use lib.Dec.{eqb, leb, ltb}
 use lib.ListN.{length, getD, take, drop, length-drop, drop-of-length-le}
 use lib.Seq.{take-all, drop-cons}
-use borrow.Author.Tests.{not-true, not-false, eq-eqb, ne-eqb, le-ltb, le-leb, lt-leb}
+use borrow.Author.Tests.{eq-eqb, ne-eqb, le-ltb, le-leb, lt-leb}
 use Rattle.schedule.specs.Bounded.{first}
 use Rattle.schedule.specs.Fields.{field}
 use Rattle.schedule.specs.Rule.{Refusal, break, firstBreak}
@@ -28,14 +28,7 @@ use Rattle.schedule.specs.Exchange.{same, copyRule, recordRules, outranks}
 use Rattle.schedule.specs.Opened.{form-rules}
 use Rattle.laws.proofs.FirstBreak.{orElse}
 use Rattle.laws.proofs.VerdictLaws.{accepted-is-not-refused}
-use Rattle.laws.proofs.WrappedLaws.{isRight, oneSeries, noOther, byTests}
-
--- a call that tells a test said no, or yes
-pub told-no : {r s : Bool} → r ≡ s → not r ≡ true → s ≡ false
-told-no {r} e n = sym e ∙ not-true r n
-
-pub told-yes : {r s : Bool} → r ≡ s → not r ≡ false → s ≡ true
-told-yes {r} e n = sym e ∙ not-false r n
+use Rattle.laws.proofs.WrappedLaws.{isRight, oneSeries, noOther, byTests, unless}
 
 -- ---- one record
 
@@ -78,16 +71,12 @@ one-only v = elim (ℕ-discrete v 1) [
   ]
 ]
 
--- a rule that names no place, before the rest
-unless : Bool → Option Refusal → Option Refusal
-unless passed rest = orElse (cond passed none (some (record { number = 54; A = 0; B = 0 }))) rest
-
 -- 54 by its tests
 pub right-by : (w : List ℕ)
     → unbroken (firstBreak (wrapperForm w))
     ≡ ((leb 12 (length w) && eqb (field w 0 4) (length w)) && (eqb (field w 4 1) 1 && (leb (withdrawn w) 1
     && unbroken (firstBreak (modelForm (wrapped w))))))
-unfolding wrapperForm firstBreak break first flagRule form-rules unless
+unfolding wrapperForm firstBreak break first flagRule form-rules
 right-by w =
     by (leb 12 (length w) && eqb (field w 0 4) (length w)) (within 1 1 (field w 4 1)) (leb (withdrawn w) 1)
     (firstBreak (modelForm (wrapped w)))
@@ -95,7 +84,7 @@ right-by w =
     && unbroken (firstBreak (modelForm (wrapped w)))))) (one-only (field w 4 1))
   where
     by : (a b c : Bool) (rest : Option Refusal)
-        → unbroken (unless a (unless b (unless c rest))) ≡ (a && (b && (c && unbroken rest)))
+        → unbroken (orElse (unless a 54) (orElse (unless b 54) (orElse (unless c 54) rest))) ≡ (a && (b && (c && unbroken rest)))
     by false b c rest = refl
     by true false c rest = refl
     by true true false rest = refl
@@ -127,11 +116,8 @@ pub compared-by : (x w : List ℕ)
 unfolding answer firstBreak break first wrapperRule seriesRule copyRule
 compared-by x w = by (isRight w) (oneSeries x w) (noOther x w) (outranks w x)
   where
-    numbered : Bool → ℕ → Option Refusal
-    numbered passed number = cond passed none (some (record { number = number; A = 0; B = 0 }))
-
     by : (right one copy above : Bool)
-        → answer (orElse (numbered right 54) (orElse (numbered one 55) (orElse (numbered copy 56) none))) above
+        → answer (orElse (unless right 54) (orElse (unless one 55) (orElse (unless copy 56) none))) above
         ≡ byTests right one copy above 0 (accepted true) (accepted false)
     by false one copy above = refl
     by true false copy above = refl

@@ -9,8 +9,8 @@ use mathlib.Core.List.{List, [], _∷_, _++_}
 use mathlib.Core.Logic.{_⊎_, inl, inr, _↔_, ⊎-elim}
 use mathlib.Core.Path.{_≡_, refl, sym, subst, ap, ap₂, _∙_}
 use lib.Dec.{T, leb}
-use lib.ListN.{length, getD, take, drop, length-take, length-drop}
-use lib.Seq.{take-all, length-take-le, drop-length, drop-cons, drop-drop, take-add}
+use lib.ListN.{length, getD, take, drop, length-drop}
+use lib.Seq.{take-all, length-take-le, drop-cons, drop-drop, take-add}
 use Rattle.schedule.specs.Bounded.{total, chain}
 use Rattle.schedule.specs.Fields.{field}
 use Rattle.schedule.specs.Records.{Within, within}

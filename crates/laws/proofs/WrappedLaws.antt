@@ -60,7 +60,8 @@ outranks-sound x y = by-two (issue y) (issue x) (withdrawn y) (withdrawn x)
 -- a flag of 0 or 1 beside what every record has
 pub wrapperForm-sound : (w : List ℕ) → AllSound (wrapperForm w)
 unfolding wrapperForm flagRule form-rules
-wrapperForm-sound w = (λ a b. simp tests Iff·rfl) & (λ a b. simp tests Iff·rfl) & (λ a b. simp tests Iff·rfl) & modelForm-sound (wrapped w)
+wrapperForm-sound w =
+    (λ a b. simp tests Iff·rfl) & (λ a b. simp tests Iff·rfl) & (λ a b. simp tests Iff·rfl) & modelForm-sound (wrapped w)
 
 unbroken-iff : (o : Option Refusal) → T (unbroken o) ↔ (o ≡ none)
 unbroken-iff none = (λ t. refl, λ e. tt)
@@ -117,11 +118,11 @@ by-tests P true true true true k new old r54 r55 r56 n o = n tt tt tt tt
 by-tests P true true true false k new old r54 r55 r56 n o = o tt tt tt (λ t. t)
 
 -- the answer that follows the first break of a record's rules
-abbrev onwards : Option Refusal → Bool → ℕ → Answer ℕ → Answer ℕ → Answer ℕ
+abbrev pub onwards : Option Refusal → Bool → ℕ → Answer ℕ → Answer ℕ → Answer ℕ
 onwards o above k new old = elim o [ some x ↦ refused (atRecord k x) | none ↦ elim above [ true ↦ new | false ↦ old ] ]
 
 -- a rule that names no place
-abbrev unless : Bool → ℕ → Option Refusal
+abbrev pub unless : Bool → ℕ → Option Refusal
 unless passed number = cond passed none (some (record { number = number; A = 0; B = 0 }))
 
 pub along-step : (k r : ℕ) (x w : List ℕ) (ws : List (List ℕ))

@@ -1,11 +1,10 @@
 -- `exchange::choose` meets its contract: what is left of the walk gives the file's answer. Assumes nothing.
-use Rattle.exchange.proofs.AlongLaws.{Along, finish, starts-refused, starts, inside, ends-inside, steps-refused, steps-on}
 use Prim.Native.Nat.{_-_}
 use native.Mathlib.Omega.{arith}
 use mathlib.Core.Path.{sym}
 use lib.ListN.{length}
-use Rattle.exchange.proofs.RecordLaws.{told-no, told-yes}
-use Rattle.exchange.proofs.AlongLaws.{Along, finish, starts-refused, starts, inside, steps-refused, steps-on}
+use Rattle.records.proofs.Reading.{told-no, told-yes}
+use Rattle.exchange.proofs.AlongLaws.{Along, finish, starts-refused, starts, inside, ends-inside, steps-refused, steps-on}
 use borrow.Author.Needs.{needs}
 use Rattle.exchange.proofs.choose.Statement.{statement}
 use Rattle.exchange.proofs.choose.Tie as tie
@@ -45,8 +44,10 @@ bytes-of-requires-2 c κs = c .before .before .loop .inv .inside
 
 bytes-of-requires-3 : tie.Need-bytes-of-requires-3 Inv-loop μ-loop
 bytes-of-requires-3 c κs =
-    let l = c .before .before .before .loop in
-    inside (c .before .before .before .before .before .before .before .before .before .args .file .now) _ (l .index) (l .at) (c .before .record-at2 .ensures) (l .inv .here .in-file)
+    let at-loop = c .before .before .before in
+    let start = at-loop .before .before .before .before .before .before in
+    let l = at-loop .loop in
+    inside (start .args .file .now) _ (l .index) (l .at) (c .before .record-at2 .ensures) (l .inv .here .in-file)
 
 compare-requires : tie.Need-compare-requires Inv-loop μ-loop
 compare-requires c κs = search needs
@@ -56,11 +57,14 @@ enum-known-found c = search needs
 
 returns-2 : tie.Need-returns-2 Inv-loop μ-loop
 returns-2 c =
-    let c6 = c .before .before .before .before .before .before in
-    let l = c6 .before .before .loop in
-    sym (steps-refused (c .before .before .before .before .before .before .before .before .before .before .before .before .before .before .args .file .now) _ _ (l .index) (l .at) _ _ (l .inv) (c6 .before .loop-test .taken)
-    (c6 .record-at2 .ensures) (c .before .before .before .before .before .bytes-of2 .ensures) (c .before .before .before .before .bytes-of3 .ensures) _ _
-    (c .before .before .before .compare .ensures) (c .before .found .given .1))
+    let at-compare = c .before .before .before in
+    let at-next = at-compare .before .before .before in
+    let at-loop = at-next .before .before in
+    let start = at-loop .before .before .before .before .before .before in
+    let l = at-loop .loop in
+    sym (steps-refused (start .args .file .now) _ _ (l .index) (l .at) _ _ (l .inv) (at-next .before .loop-test .taken)
+    (at-next .record-at2 .ensures) (at-compare .before .before .bytes-of2 .ensures) (at-compare .before .bytes-of3 .ensures)
+    _ _ (at-compare .compare .ensures) (c .before .found .given .1))
 
 enum-known-found-2 : tie.Need-enum-known-found-2 Inv-loop μ-loop
 enum-known-found-2 c = search needs
@@ -70,37 +74,51 @@ upper-requires c κs = search needs
 
 add-at : tie.Need-add-at Inv-loop μ-loop
 add-at c =
-    let c8 = c .before .before .before .before .before .before .before .before in
-    let l = c8 .before .before .loop in
+    let at-next = c .before .before .before .before .before .before .before .before in
+    let at-loop = at-next .before .before in
+    let start = at-loop .before .before .before .before .before .before in
+    let l = at-loop .loop in
     omega (
       arith,
-      ends-inside (c .before .before .before .before .before .before .before .before .before .before .before .before .before .before .before .before .args .file .now) _ (l .index) (l .at) (c8 .record-at2 .ensures) (c8 .before .loop-test .taken),
-      c .before .before .before .before .before .before .before .before .before .before .before .before .before .before .before .before .good .0,
+      ends-inside (start .args .file .now) _ (l .index) (l .at) (at-next .record-at2 .ensures) (at-next .before .loop-test .taken),
+      start .good .0,
     )
 
 add-index : tie.Need-add-index Inv-loop μ-loop
 add-index c =
-    let l = c .before .before .before .before .before .before .before .before .before .before .loop in
-    omega (arith, l .inv .few, c .before .before .before .before .before .before .before .before .before .loop-test .taken, c .before .before .before .before .before .before .before .before .before .before .before .before .before .before .before .before .good .0)
+    let at-test = c .before .before .before .before .before .before .before .before .before in
+    let at-loop = at-test .before in
+    let start = at-loop .before .before .before .before .before .before in
+    omega (arith, at-loop .loop .inv .few, at-test .loop-test .taken, start .good .0)
 
 loop-less : tie.Need-loop-less Inv-loop μ-loop
 loop-less c =
-    let c8 = c .before .before .before .before .before .before .before .before in
-    let l = c8 .before .before .loop in
-    omega (arith, ends-inside (c .before .before .before .before .before .before .before .before .before .before .before .before .before .before .before .before .args .file .now) _ (l .index) (l .at) (c8 .record-at2 .ensures) (c8 .before .loop-test .taken))
+    let at-next = c .before .before .before .before .before .before .before .before in
+    let at-loop = at-next .before .before in
+    let start = at-loop .before .before .before .before .before .before in
+    let l = at-loop .loop in
+    omega (
+      arith,
+      ends-inside (start .args .file .now) _ (l .index) (l .at) (at-next .record-at2 .ensures) (at-next .before .loop-test .taken),
+    )
 
 loop-again : tie.Need-loop-again Inv-loop μ-loop
 loop-again c =
-    let c8 = c .before .before .before .before .before .before .before .before in
-    let l = c8 .before .before .loop in
-    steps-on (c .before .before .before .before .before .before .before .before .before .before .before .before .before .before .before .before .args .file .now) _ _ _ (l .index) (l .at) _ _ (l .inv) (c8 .before .loop-test .taken)
-    (c8 .record-at2 .ensures) (c .before .before .before .before .before .before .before .bytes-of2 .ensures) (c .before .before .before .before .before .before .bytes-of3 .ensures) _ _
-    (c .before .before .before .before .before .compare .ensures) (c .before .before .before .found2 .given .1) (c .before .upper .ensures)
+    let at-compare = c .before .before .before .before .before in
+    let at-next = at-compare .before .before .before in
+    let at-loop = at-next .before .before in
+    let start = at-loop .before .before .before .before .before .before in
+    let l = at-loop .loop in
+    steps-on (start .args .file .now) _ _ _ (l .index) (l .at) _ _ (l .inv) (at-next .before .loop-test .taken)
+    (at-next .record-at2 .ensures) (at-compare .before .before .bytes-of2 .ensures) (at-compare .before .bytes-of3 .ensures)
+    _ _ (at-compare .compare .ensures) (c .before .before .before .found2 .given .1) (c .before .upper .ensures)
 
 returns-3 : tie.Need-returns-3 Inv-loop μ-loop
 returns-3 c =
-    let l = c .before .loop in
-    sym (finish (c .before .before .before .before .before .before .before .args .file .now) _ (l .index) (l .at) (l .inv) (c .loop-test .left))
+    let at-loop = c .before in
+    let start = at-loop .before .before .before .before .before .before in
+    let l = at-loop .loop in
+    sym (finish (start .args .file .now) _ (l .index) (l .at) (l .inv) (c .loop-test .left))
 
 pub choose-spec : {M : Type 1} → statement M
 choose-spec =

@@ -13,7 +13,10 @@ enum-known-found : tie.Need-enum-known-found
 enum-known-found c = search needs
 
 bytes-of-requires : tie.Need-bytes-of-requires
-bytes-of-requires c κs = chosen-part (c .before .before .before .before .before .args .file .now) _ (sym (c .before .before .before .choose .ensures) ∙ ap chosenNumbers (c .before .found .given .1)) .1 .0
+bytes-of-requires c κs =
+    let at-choose = c .before .before .before in
+    chosen-part (at-choose .before .before .args .file .now) _
+    (sym (at-choose .choose .ensures) ∙ ap chosenNumbers (c .before .found .given .1)) .1 .0
 
 enum-told : tie.Need-enum-told
 enum-told c = search needs

@@ -1,7 +1,7 @@
 -- `exchange::compare` meets its contract: each way out has the tests that led there. Assumes nothing.
 use mathlib.Core.Path.{refl}
-use Rattle.exchange.proofs.RecordLaws.{told-no, told-yes, compared-by, taken-above}
-use Rattle.exchange.proofs.RecordLaws.{told-no, told-yes, compared-by}
+use Rattle.records.proofs.Reading.{told-no, told-yes}
+use Rattle.exchange.proofs.RecordLaws.{compared-by, taken-above}
 use borrow.Author.Needs.{needs}
 use Rattle.exchange.proofs.compare.Statement.{statement}
 use Rattle.exchange.proofs.compare.Tie as tie

@@ -20,10 +20,11 @@ returns : tie.Need-returns
 returns c =
     let c4 = c .before .before .before .before in
     let a = c4 .before .before .before .args in
+    let other = c .before .before .before .issue2 .ensures in
     simp (
       c .issue4 .ensures,
       c .before .issue3 .ensures,
-      other-issues (a .x .now) (a .y .now) _ _ (c4 .issue .ensures) (c .before .before .before .issue2 .ensures) (c .before .before .if1 .taken),
+      other-issues (a .x .now) (a .y .now) _ _ (c4 .issue .ensures) other (c .before .before .if1 .taken),
     )
 
 withdrawn-requires : tie.Need-withdrawn-requires
@@ -36,10 +37,11 @@ returns-2 : tie.Need-returns-2
 returns-2 c =
     let c4 = c .before .before .before .before in
     let a = c4 .before .before .before .args in
+    let other = c .before .before .before .issue2 .ensures in
     simp (
       c .withdrawn2 .ensures,
       c .before .withdrawn .ensures,
-      equal-issues (a .x .now) (a .y .now) _ _ (c4 .issue .ensures) (c .before .before .before .issue2 .ensures) (c .before .before .if1 .left),
+      equal-issues (a .x .now) (a .y .now) _ _ (c4 .issue .ensures) other (c .before .before .if1 .left),
     )
 
 pub outranks-spec : {M : Type 1} → statement M

@@ -2,8 +2,7 @@
 use mathlib.Core.Bool.{Bool, cond}
 use mathlib.Core.Path.{sym, ap, _∙_}
 use Rattle.schedule.specs.Answers.{accepted}
-use mathlib.Core.Path.{sym, ap}
-use Rattle.exchange.proofs.RecordLaws.{told-no, told-yes}
+use Rattle.records.proofs.Reading.{told-no, told-yes}
 use Rattle.exchange.proofs.AlongLaws.{pair-unright, pair-refused, pair-taken}
 use borrow.Author.Needs.{needs}
 use Rattle.exchange.proofs.which.Statement.{statement}
