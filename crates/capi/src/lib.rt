@@ -147,7 +147,7 @@ pub extern "C" fn grid_lateness(model: &[u8], choice: &[u8], rows: &mut [i32]) -
 pub extern "C" fn grid_stands(first: &[u8], second: &[u8]) -> GridPart
     ensures { λ r. ⌜ r ≡ partExported (pairPart (now (first .entry)) (now (second .entry))) ⌝ }
 {
-    let found = exchange::which(first, second);
+    let found = exchange::which_stands(first, second);
     match found {
         Standing::First => part(Part {
             index: 0,

@@ -140,10 +140,11 @@ no-other-records (w ∷ ws) h =
 
 pub files-are-chosen : FilesAreChosen
 files-are-chosen f = record {
-  chosen = λ x e.
-      let part = chosen-part f x e in
-      (one-stands (recordsOf f) .0 (x .index) .0 (part .0), part .1);
-  turned-away = λ x e.
-      let nothing = chosen-nothing f x e in
-      (one-stands (recordsOf f) .1 x .0 (nothing .0), nothing .1);
+  chosen = λ x e. one-stands (recordsOf f) .0 (x .index) .0 (chosen-part f x e .stands);
+  offset = λ x e. chosen-part f x e .offset;
+  size = λ x e. chosen-part f x e .size;
+  bytes = λ x e. chosen-part f x e .bytes;
+  in-file = λ x e. chosen-part f x e .bytes ∙ chosen-part f x e .lies;
+  turned-away = λ x e. one-stands (recordsOf f) .1 x .0 (chosen-nothing f x e .0);
+  nothing = λ x e. chosen-nothing f x e .1;
 }

@@ -15,12 +15,12 @@ use lib.Seq.{drop-cons}
 use Rattle.schedule.specs.Rule.{Refusal}
 use Rattle.schedule.specs.Answers.{Answer, accepted, refused}
 use Rattle.schedule.specs.Exchange.{series, issue, withdrawn, flagRule, wrapperForm}
-use Rattle.schedule.specs.Exchange.{Outranks, outranks, along, standing, recordAt}
+use Rattle.schedule.specs.Exchange.{Outranks, outranks, along, standing, recordAt, handedBack, bothOf, pairAnswer, pairBytes}
 use Rattle.laws.proofs.WrappedLaws.{outranks-sound, right-sound, series-sound, copy-sound}
-use Rattle.laws.proofs.WrappedLaws.{isRight, oneSeries, noOther, turned, by-tests, along-step, standing-first}
+use Rattle.laws.proofs.WrappedLaws.{isRight, oneSeries, noOther, turned, by-tests, along-step, standing-first, standing-lt}
 use Rattle.demands.specs.Exchange.{StandsAmong, IsRight, Taken, IsChosen, IsRefused}
 use Rattle.demands.specs.Exchange.{TurnedAway, nothing, wrapper, two-series, other-bytes}
-use Rattle.demands.specs.Exchange.{OneStands, OthersPassedOver}
+use Rattle.demands.specs.Exchange.{OneAmong, OneStands, OthersPassedOver, PairsAreAnswered}
 
 -- ---- rank
 
@@ -353,6 +353,12 @@ stands-some ws (suc k) = after (stands-some ws k)
               (stands-old ws (suc k) (found .0) (found .1) (h .1)),
         )
 
+pub one-among : OneAmong
+one-among ws zero l = absurd (omega (arith, l))
+one-among ws (suc k) l =
+    let found = stands-some ws k in
+    (found .0, (found .1, λ s h. stands-once ws (suc k) s (found .0) h (found .1)))
+
 -- all are of the first one's series
 series-of-first : (ws : List (List ℕ)) → ((k : ℕ) → k < length ws → Taken ws k)
     → (n k : ℕ) → k < n → k < length ws → series (recordAt ws k) ≡ series (recordAt ws 0)
@@ -413,3 +419,16 @@ others-passed-over ws r e k l = record {
       | yes b ↦ absurd (c .stands .by-none k l (inr (sym i, b)))
       | no b ↦ omega (arith, flag, f)
     ])
+
+-- ---- a pair
+
+pub pairs-are-answered : PairsAreAnswered
+unfolding pairAnswer pairBytes handedBack
+pairs-are-answered x y = record {
+  first = ap (handedBack (bothOf x y));
+  second = ap (handedBack (bothOf x y));
+  no-other = standing-lt (bothOf x y);
+  nothing = λ z. ap (handedBack (bothOf x y));
+  stands = one-stands (bothOf x y) .0;
+  turned-away = one-stands (bothOf x y) .1;
+}

@@ -1,7 +1,7 @@
 -- "Withdrawn pages" (U6 of 02), as statements about every list of records and every file: which one stands, what is said of
--- those passed over, and where a refusal comes from. The theorem speaks of ranks and places, and of no walk along the file.
+-- those passed over, and where a refusal comes from. The theorems speak of ranks and places, and of no walk along the file.
 -- Assumes nothing.
-use Prim.Native.Nat.{ℕ, _+_, _≤_, _<_}
+use Prim.Native.Nat.{ℕ, _≤_, _<_}
 use mathlib.Core.List.{List, []}
 use mathlib.Core.Logic.{_⊎_, _↔_}
 use mathlib.Core.Path.{_≡_}
@@ -11,7 +11,7 @@ use Rattle.schedule.specs.Fields.{field}
 use Rattle.schedule.specs.Rule.{Refusal, AllHold}
 use Rattle.schedule.specs.Answers.{accepted, refused, MeetsForm}
 use Rattle.schedule.specs.Exchange.{series, issue, withdrawn, wrapperForm, Outranks, standing, recordAt, Part}
-use Rattle.schedule.specs.Exchange.{recordsOf, offsetIn, fileAnswer, fileBytes}
+use Rattle.schedule.specs.Exchange.{bothOf, pairAnswer, pairBytes, recordsOf, offsetIn, fileAnswer, fileBytes}
 
 -- ---- records in a list
 
@@ -22,7 +22,12 @@ pub record StandsAmong (ws : List (List ℕ)) (k r : ℕ) : Type 0 where
   pub by-none : (j : ℕ) → j < k → ¬ Outranks (recordAt ws j) (recordAt ws r)
   pub first : (j : ℕ) → j < r → Outranks (recordAt ws r) (recordAt ws j)
 
--- what a record is: its wrapper and its model are right
+-- among any number of records one stands, and one only; before record 0 there is none
+abbrev pub OneAmong : Type 0
+OneAmong = (ws : List (List ℕ)) (k : ℕ) → 0 < k
+    → (r : ℕ) × (StandsAmong ws k r × ((s : ℕ) → StandsAmong ws k s → s ≡ r))
+
+-- a record is right: its wrapper's length, version and flag, and the form rules of its model
 abbrev pub IsRight : List ℕ → Type 0
 IsRight w = AllHold (wrapperForm w)
 
@@ -77,10 +82,25 @@ abbrev pub OthersPassedOver : Type 0
 OthersPassedOver = (ws : List (List ℕ)) (r : ℕ) → standing ws ≡ accepted r
     → (k : ℕ) → k < length ws → PassedOver (recordAt ws r) (recordAt ws k)
 
+-- ---- a pair
+
+-- what the two calls on a pair say is one thing: the first where it stands, the second where it does, or nothing
+pub record PairAnswers (x y : List ℕ) : Type 0 where
+  pub first : pairAnswer x y ≡ accepted 0 → pairBytes x y ≡ x
+  pub second : pairAnswer x y ≡ accepted 1 → pairBytes x y ≡ y
+  pub no-other : (r : ℕ) → pairAnswer x y ≡ accepted r → r < 2
+  pub nothing : (z : Refusal) → pairAnswer x y ≡ refused z → pairBytes x y ≡ []
+  pub stands : (r : ℕ) → (pairAnswer x y ≡ accepted r) ↔ IsChosen (bothOf x y) r
+  pub turned-away : (z : Refusal) → (pairAnswer x y ≡ refused z) ↔ IsRefused (bothOf x y) z
+
+abbrev pub PairsAreAnswered : Type 0
+PairsAreAnswered = (x y : List ℕ) → PairAnswers x y
+
 -- ---- records in a file
 
 -- what stands at a place of a file is a record: its length is readable, 12 or more and not past the end, its version and its
--- flag are right, and its model, all that is behind the 12 bytes, meets its form rules
+-- flag are right, and its model, all that is behind the 12 bytes, meets its form rules; that its length is readable follows from
+-- the two below it
 pub record BeginsRecord (f : List ℕ) : Type 0 where
   pub readable : 4 ≤ length f
   pub long-enough : 12 ≤ field f 0 4
@@ -91,25 +111,29 @@ pub record BeginsRecord (f : List ℕ) : Type 0 where
 
 -- "A file holds wrapped records end to end": of every file, its records join to it, each begins where those before it end, and
 -- is right exactly where a record begins
-pub record Holds (f : List ℕ) (ws : List (List ℕ)) : Type 0 where
+pub record HoldsRecords (f : List ℕ) (ws : List (List ℕ)) : Type 0 where
   pub joined : chain (length ws) (recordAt ws) ≡ f
   pub lies : (k : ℕ) → k < length ws → recordAt ws k ≡ take (length (recordAt ws k)) (drop (offsetIn ws k) f)
   pub right : (k : ℕ) → k < length ws → IsRight (recordAt ws k) ↔ BeginsRecord (drop (offsetIn ws k) f)
 
 abbrev pub FilesHoldRecords : Type 0
-FilesHoldRecords = (f : List ℕ) → Holds f (recordsOf f)
+FilesHoldRecords = (f : List ℕ) → HoldsRecords f (recordsOf f)
 
 -- no other records do: those that are right and join to a file are its records
 abbrev pub NoOtherRecords : Type 0
 NoOtherRecords = (ws : List (List ℕ)) → ((k : ℕ) → k < length ws → IsRight (recordAt ws k))
     → recordsOf (chain (length ws) (recordAt ws)) ≡ ws
 
--- what the two calls on a file answer: the number of the one that stands, where it lies, and its bytes
-pub record Answers (f : List ℕ) : Type 0 where
-  pub chosen : (x : Part) → (fileAnswer f ≡ accepted x)
-      → IsChosen (recordsOf f) (x .index)
-      × ((x .offset + x .length ≤ length f) × (fileBytes f ≡ take (x .length) (drop (x .offset) f)))
-  pub turned-away : (x : Refusal) → (fileAnswer f ≡ refused x) → IsRefused (recordsOf f) x × (fileBytes f ≡ [])
+-- what the two calls on a file answer: the number of the one that stands, where it begins and how long it is, and its bytes,
+-- which are those of the file there; or the refusal, and nothing
+pub record FileAnswers (f : List ℕ) : Type 0 where
+  pub chosen : (x : Part) → fileAnswer f ≡ accepted x → IsChosen (recordsOf f) (x .index)
+  pub offset : (x : Part) → fileAnswer f ≡ accepted x → x .offset ≡ offsetIn (recordsOf f) (x .index)
+  pub size : (x : Part) → fileAnswer f ≡ accepted x → x .length ≡ length (recordAt (recordsOf f) (x .index))
+  pub bytes : (x : Part) → fileAnswer f ≡ accepted x → fileBytes f ≡ recordAt (recordsOf f) (x .index)
+  pub in-file : (x : Part) → fileAnswer f ≡ accepted x → fileBytes f ≡ take (x .length) (drop (x .offset) f)
+  pub turned-away : (x : Refusal) → fileAnswer f ≡ refused x → IsRefused (recordsOf f) x
+  pub nothing : (x : Refusal) → fileAnswer f ≡ refused x → fileBytes f ≡ []
 
 abbrev pub FilesAreChosen : Type 0
-FilesAreChosen = (f : List ℕ) → Answers f
+FilesAreChosen = (f : List ℕ) → FileAnswers f

@@ -16,13 +16,13 @@ use lib.Seq.{length-take-le, drop-cons}
 use Rattle.schedule.specs.Rule.{Refusal, firstBreak}
 use Rattle.schedule.specs.Answers.{Answer, accepted, refused, answer}
 use Rattle.schedule.specs.Exchange.{wrapperRule, recordRules, outranks, atRecord, along, standing, recordAt, bothOf}
+use Rattle.schedule.specs.Exchange.{handedBack, partOf, placed}
 use Rattle.schedule.specs.Exchange.{pairAnswer, pairBytes, recordEnd, recordsOf, offsetIn, fileAnswer}
 use Rattle.schedule.specs.Numbers.{wrapNumbers, partNumbers}
 use Rattle.schedule.specs.declared.Part.{Part}
 use Rattle.schedule.specs.declared.WrapRefusal.{WrapRefusal}
 use Rattle.laws.proofs.VerdictLaws.{accepted-is-not-refused}
 use Rattle.laws.proofs.WrappedLaws.{isRight, turned, onwards, standing-first}
-use Rattle.laws.proofs.WrappedLaws.{handed-back, nothing-back, partOf, placed-accepted, placed-refused}
 use Rattle.laws.proofs.FileRecords.{end-le, end-above, records-cons, records-none, Reached, reached-start, Next, next, none-left}
 use Rattle.exchange.specs.declared.Compared.{Compared}
 use Rattle.exchange.specs.Compares.{comparedNumbers}
@@ -82,12 +82,12 @@ unfolding along
 pair-taken x y found above r h e = pair-right x y r ∙ along-taken 1 0 x y [] found above h e
 
 pub pair-part : (x y : List ℕ) (r : ℕ) → pairAnswer x y ≡ accepted r → pairBytes x y ≡ recordAt (bothOf x y) r
-unfolding pairAnswer pairBytes
-pair-part x y r e = handed-back (bothOf x y) r e
+unfolding pairAnswer pairBytes handedBack
+pair-part x y r e = ap (handedBack (bothOf x y)) e
 
 pub pair-nothing : (x y : List ℕ) (z : Refusal) → pairAnswer x y ≡ refused z → pairBytes x y ≡ []
-unfolding pairAnswer pairBytes
-pair-nothing x y z e = nothing-back (bothOf x y) z e
+unfolding pairAnswer pairBytes handedBack
+pair-nothing x y z e = ap (handedBack (bothOf x y)) e
 
 -- ---- along a file
 
@@ -102,11 +102,8 @@ right-long w e = leb-true 12 (length w) (left (leb 12 (length w)) _ (left _ _ (s
 
 -- the first record is refused, or there is none
 pub start-refused : (f : List ℕ) → isRight (take (recordEnd f) f) ≡ false → fileAnswer f ≡ turned 54 0
-unfolding fileAnswer standing
-start-refused f e = placed-refused (offsetIn ws) ws _ (elim (decLt 0 (length f)) [
-  | yes l ↦ ap standing (records-cons f l) ∙ standing-first w rest ∙ ap (λ (b : Bool). cond b (along 1 0 w rest) (turned 54 0)) e
-  | no l ↦ ap standing (records-none f (omega arith))
-])
+unfolding fileAnswer standing placed
+start-refused f e = ap (placed (offsetIn ws) ws) refusing
   where
     ws : List (List ℕ)
     ws = recordsOf f
@@ -116,6 +113,15 @@ start-refused f e = placed-refused (offsetIn ws) ws _ (elim (decLt 0 (length f))
 
     rest : List (List ℕ)
     rest = recordsOf (drop (recordEnd f) f)
+
+    refusing : standing ws ≡ turned 54 0
+    refusing = elim (decLt 0 (length f)) [
+      | yes l ↦
+          ap standing (records-cons f l)
+          ∙ standing-first w rest
+          ∙ ap (λ (b : Bool). cond b (along 1 0 w rest) (turned 54 0)) e
+      | no l ↦ ap standing (records-none f (omega arith))
+    ]
 
 -- Records have been taken up to number `index`, which begins at a place; the one standing so far lies where it is said to lie,
 -- and what is left of the walk gives the answer.
@@ -183,9 +189,9 @@ bytesAt f x = take (x .length) (drop (x .offset) f)
 pub step-refused : (f : List ℕ) (x : Part) (index at : ℕ) → Along f x index at → at < length f
     → (found : Compared) (why : WrapRefusal) → Beside (bytesAt f x) (bytesAt f (partAt f index at)) found
     → found ≡ Compared.Refused why → fileAnswer f ≡ refused (wrapNumbers why index)
-unfolding fileAnswer
+unfolding fileAnswer placed
 step-refused f x index at h l found why b e =
-    placed-refused (offsetIn (recordsOf f)) (recordsOf f) _
+    ap (placed (offsetIn (recordsOf f)) (recordsOf f))
     (left f x index at h (next f index at (h .here) l)
     ∙ along-refused index (x .index) (bytesAt f x) (bytesAt f (partAt f index at)) _ found why b e)
 
@@ -233,9 +239,9 @@ step-taken f x index at h l found above b e = by above (along-taken index (x .in
 
 pub finish : (f : List ℕ) (x : Part) (index at : ℕ) → Along f x index at → length f ≤ at
     → fileAnswer f ≡ accepted (partNumbers x)
-unfolding fileAnswer along
+unfolding fileAnswer along placed
 finish f x index at h l =
-    placed-accepted (offsetIn (recordsOf f)) (recordsOf f) (x .index)
+    ap (placed (offsetIn (recordsOf f)) (recordsOf f))
     (h .goes-on
     ∙ ap (along index (x .index) (recordAt (recordsOf f) (x .index))) (none-left f index at (h .here) l))
     ∙ ap accepted (sym (h .part))

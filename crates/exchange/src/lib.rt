@@ -105,7 +105,7 @@ fn series_holds(x: &[u8], w: &[u8]) -> bool
     series(w) == series(x)
 }
 
-// 56 "equal series, issue and flag with other bytes"
+// 56 "equal series, issue and flag with other bytes"; behind 55 the series is equal already.
 fn copy_holds(x: &[u8], w: &[u8]) -> bool
     ensures { λ r. ⌜ r ≡ copyRule (now (x .entry)) (now (w .entry)) .test 0 0 ⌝ }
 {
@@ -151,7 +151,7 @@ fn compare(x: &[u8], w: &[u8]) -> Compared
 // ---- a pair
 
 // Which of two wrapped records stands, "the first where both are equal".
-pub fn which(first: &[u8], second: &[u8]) -> Standing
+pub fn which_stands(first: &[u8], second: &[u8]) -> Standing
     ensures { λ r. ⌜ standingNumbers r ≡ pairAnswer (now (first .entry)) (now (second .entry)) ⌝ }
 {
     if !wrapper_holds(first) {
@@ -174,7 +174,7 @@ pub fn which(first: &[u8], second: &[u8]) -> Standing
 pub fn stands<'a>(first: &'a [u8], second: &'a [u8]) -> &'a [u8]
     ensures { λ r. ⌜ now r ≡ pairBytes (now (first .entry)) (now (second .entry)) ⌝ }
 {
-    let found = which(first, second);
+    let found = which_stands(first, second);
     match found {
         Standing::First => first,
         Standing::Second => second,
@@ -185,7 +185,7 @@ pub fn stands<'a>(first: &'a [u8], second: &'a [u8]) -> &'a [u8]
 // ---- a file
 
 // Where the first record of what is left ends: behind as many bytes as its length says, or at the end where that is under 12
-// or past it.
+// or past it. A byte past the end counts as 0, so fewer than 4 bytes are never a length of 12 or more that lies within them.
 fn record_end(rest: &[u8]) -> usize
     ensures { λ r. ⌜ r ≡ recordEnd (now (rest .entry)) ⌝ }
 {
@@ -222,7 +222,7 @@ fn bytes_of(file: &[u8], x: Part) -> &[u8]
     &file[from..to]
 }
 
-// The one of two that stands.
+// The new one where it is above, else the old one.
 fn upper(above: bool, old: Part, new: Part) -> Part
     ensures { λ r. ⌜ r ≡ cond above new old ⌝ }
 {

@@ -16,10 +16,10 @@ use Rattle.schedule.specs.Fields.{field}
 use Rattle.schedule.specs.Records.{Within, within}
 use Rattle.schedule.specs.Rule.{Refusal}
 use Rattle.schedule.specs.Answers.{accepted, refused}
-use Rattle.schedule.specs.Exchange.{wrapperLength, standing, recordAt, Part}
+use Rattle.schedule.specs.Exchange.{wrapperLength, standing, recordAt, handedBack, Part, partOf}
 use Rattle.schedule.specs.Exchange.{recordEnd, cutInto, recordsOf, offsetIn, fileAnswer, fileBytes}
 use Rattle.laws.proofs.Tests.{T-and, T-leb}
-use Rattle.laws.proofs.WrappedLaws.{standing-lt, handed-back, nothing-back, placed-from, refused-from}
+use Rattle.laws.proofs.WrappedLaws.{standing-lt, placed-from, refused-from}
 
 -- ---- where a record ends
 
@@ -214,30 +214,47 @@ joined f =
 
 -- ---- the chosen one
 
--- the part that is answered lies in the file, and is what is handed back
-pub chosen-part : (f : List ℕ) (x : Part) → fileAnswer f ≡ accepted x
-    → (standing (recordsOf f) ≡ accepted (x .index))
-    × ((x .offset + x .length ≤ length f) × (fileBytes f ≡ take (x .length) (drop (x .offset) f)))
-unfolding fileAnswer fileBytes
-chosen-part f x e =
-    let ws : List (List ℕ) = recordsOf f in
-    let from = placed-from (offsetIn ws) ws x e in
-    let r : ℕ = x .index in
-    let n : Next f r (offsetIn ws r) = at-offset f r (standing-lt ws r (from .0)) in
-    let offset : offsetIn ws r ≡ x .offset = ap (λ (y : Part). y .offset) (from .1) in
-    let size : length (recordAt ws r) ≡ x .length = ap (λ (y : Part). y .length) (from .1) in (
-      from .0,
-      (
-        omega (arith, n .reached .in-file, n .measured, offset, size),
-        handed-back ws r (from .0)
-            ∙ n .is
-            ∙ ap₂ (λ (i j : ℕ). take i (drop j f)) (sym (n .measured) ∙ size) offset,
-      ),
-    )
+-- the record that a file's answer speaks of: it stands, lies where its part says, and is handed back
+pub record FoundIn (f : List ℕ) (x : Part) : Type 0 where
+  pub stands : standing (recordsOf f) ≡ accepted (x .index)
+  pub offset : x .offset ≡ offsetIn (recordsOf f) (x .index)
+  pub size : x .length ≡ length (recordAt (recordsOf f) (x .index))
+  pub inside : x .offset + x .length ≤ length f
+  pub bytes : fileBytes f ≡ recordAt (recordsOf f) (x .index)
+  pub lies : recordAt (recordsOf f) (x .index) ≡ take (x .length) (drop (x .offset) f)
+
+pub chosen-part : (f : List ℕ) (x : Part) → fileAnswer f ≡ accepted x → FoundIn f x
+unfolding fileAnswer fileBytes handedBack
+chosen-part f x e = record {
+  stands = from .0;
+  offset = sym offset;
+  size = sym size;
+  inside = omega (arith, n .reached .in-file, n .measured, offset, size);
+  bytes = ap (handedBack ws) (from .0);
+  lies = n .is ∙ ap₂ (λ (i j : ℕ). take i (drop j f)) (sym (n .measured) ∙ size) offset;
+}
+  where
+    ws : List (List ℕ)
+    ws = recordsOf f
+
+    r : ℕ
+    r = x .index
+
+    from : (standing ws ≡ accepted r) × (partOf (offsetIn ws) ws r ≡ x)
+    from = placed-from (offsetIn ws) ws (standing ws) x e
+
+    n : Next f r (offsetIn ws r)
+    n = at-offset f r (standing-lt ws r (from .0))
+
+    offset : offsetIn ws r ≡ x .offset
+    offset = ap (λ (y : Part). y .offset) (from .1)
+
+    size : length (recordAt ws r) ≡ x .length
+    size = ap (λ (y : Part). y .length) (from .1)
 
 pub chosen-nothing : (f : List ℕ) (x : Refusal) → fileAnswer f ≡ refused x
     → (standing (recordsOf f) ≡ refused x) × (fileBytes f ≡ [])
-unfolding fileAnswer fileBytes
+unfolding fileAnswer fileBytes handedBack
 chosen-nothing f x e =
-    let from = refused-from (offsetIn (recordsOf f)) (recordsOf f) x e in
-    (from, nothing-back (recordsOf f) x from)
+    let from = refused-from (offsetIn (recordsOf f)) (recordsOf f) (standing (recordsOf f)) x e in
+    (from, ap (handedBack (recordsOf f)) from)

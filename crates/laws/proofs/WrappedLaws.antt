@@ -14,7 +14,7 @@ use Rattle.schedule.specs.Rule.{Refusal, break, firstBreak, AllHold}
 use Rattle.schedule.specs.Answers.{Answer, accepted, refused}
 use Rattle.schedule.specs.Exchange.{series, issue, withdrawn, wrapped, flagRule, wrapperForm, unbroken, wrapperRule}
 use Rattle.schedule.specs.Exchange.{seriesRule, same, copyRule, Outranks, outranks, atRecord, along, standing}
-use Rattle.schedule.specs.Exchange.{recordAt, handedBack, Part, placed}
+use Rattle.schedule.specs.Exchange.{Part, partOf, placed}
 use Rattle.schedule.specs.Opened.{form-rules}
 use Rattle.laws.proofs.Tests.{T-and, T-or, T-ltb, T-eqb, tests}
 use Rattle.laws.proofs.FirstBreak.{orElse, AllSound, none-iff, _&_}
@@ -182,51 +182,17 @@ standing-lt (w ∷ ws) s e = by (isRight w) (sym (standing-first w ws) ∙ e)
     by false z = absurd (no-pass _ s z)
     by true z = omega (arith, along-lt ws 1 0 w (omega arith) s z)
 
--- what is handed back, and where it lies
-pub handed-back : (ws : List (List ℕ)) (r : ℕ) → standing ws ≡ accepted r → handedBack ws ≡ recordAt ws r
-unfolding handedBack
-handed-back ws r e = ap (λ (a : Answer ℕ). elim a [ accepted s ↦ recordAt ws s | refused x ↦ [] ]) e
-
-pub nothing-back : (ws : List (List ℕ)) (x : Refusal) → standing ws ≡ refused x → handedBack ws ≡ []
-unfolding handedBack
-nothing-back ws x e = ap (λ (a : Answer ℕ). elim a [ accepted s ↦ recordAt ws s | refused y ↦ [] ]) e
-
--- the part of a record, where it is known where each begins
-abbrev pub partOf : (ℕ → ℕ) → List (List ℕ) → ℕ → Part
-partOf offset ws r = record { index = r; offset = offset r; length = length (recordAt ws r) }
-
-abbrev placing : (ℕ → ℕ) → List (List ℕ) → Answer ℕ → Answer Part
-placing offset ws a = elim a [ accepted r ↦ accepted (partOf offset ws r) | refused x ↦ refused x ]
-
-pub placed-accepted : (offset : ℕ → ℕ) (ws : List (List ℕ)) (r : ℕ) → standing ws ≡ accepted r
-    → placed offset ws ≡ accepted (partOf offset ws r)
+-- from the answer with the part, the answer
+pub placed-from : (offset : ℕ → ℕ) (ws : List (List ℕ)) (a : Answer ℕ) (x : Part) → placed offset ws a ≡ accepted x
+    → (a ≡ accepted (x .index)) × (partOf offset ws (x .index) ≡ x)
 unfolding placed
-placed-accepted offset ws r e = ap (placing offset ws) e
+placed-from offset ws (accepted r) x e =
+    let same : partOf offset ws r ≡ x = cc in
+    (ap (λ (y : Part). accepted (y .index)) same, subst (λ (y : Part). partOf offset ws (y .index) ≡ y) same refl)
+placed-from offset ws (refused y) x e = absurd (no-pass y x e)
 
-pub placed-refused : (offset : ℕ → ℕ) (ws : List (List ℕ)) (x : Refusal) → standing ws ≡ refused x
-    → placed offset ws ≡ refused x
+pub refused-from : (offset : ℕ → ℕ) (ws : List (List ℕ)) (a : Answer ℕ) (x : Refusal) → placed offset ws a ≡ refused x
+    → a ≡ refused x
 unfolding placed
-placed-refused offset ws x e = ap (placing offset ws) e
-
--- and back
-pub placed-from : (offset : ℕ → ℕ) (ws : List (List ℕ)) (x : Part) → placed offset ws ≡ accepted x
-    → (standing ws ≡ accepted (x .index)) × (partOf offset ws (x .index) ≡ x)
-unfolding placed
-placed-from offset ws x = by (standing ws)
-  where
-    by : (a : Answer ℕ) → placing offset ws a ≡ accepted x → (a ≡ accepted (x .index)) × (partOf offset ws (x .index) ≡ x)
-    by (accepted r) e =
-        let same : partOf offset ws r ≡ x = cc in (
-          ap (λ (y : Part). accepted (y .index)) same,
-          subst (λ (y : Part). partOf offset ws (y .index) ≡ y) same refl,
-        )
-    by (refused y) e = absurd (no-pass y x e)
-
-pub refused-from : (offset : ℕ → ℕ) (ws : List (List ℕ)) (x : Refusal) → placed offset ws ≡ refused x
-    → standing ws ≡ refused x
-unfolding placed
-refused-from offset ws x = by (standing ws)
-  where
-    by : (a : Answer ℕ) → placing offset ws a ≡ refused x → a ≡ refused x
-    by (accepted r) e = absurd (accepted-is-not-refused _ x e)
-    by (refused y) e = cc
+refused-from offset ws (accepted r) x e = absurd (accepted-is-not-refused _ x e)
+refused-from offset ws (refused y) x e = cc

@@ -117,8 +117,8 @@ unfolding Bounded.all Bounded.count Bounded.total Bounded.greatest Bounded.least
     Report.reportRow Report.rowsRule Report.reportRules Report.reportAnswer Report.rowsAfter Report.reportRows
     Streams.taken Streams.splits Streams.firstRecord Streams.secondRecord Streams.viewRefusal Streams.viewWord
     Exchange.flagRule Exchange.wrapperForm Exchange.wrapperRule Exchange.seriesRule Exchange.same Exchange.copyRule
-    Exchange.outranks Exchange.along Exchange.standing Exchange.handedBack Exchange.placed Exchange.pairBytes Exchange.pairPart
-    Exchange.recordEnd Exchange.cutInto Exchange.recordsOf Exchange.fileAnswer Exchange.fileBytes
+    Exchange.outranks Exchange.along Exchange.standing Exchange.handedBack Exchange.placed Exchange.pairAnswer Exchange.pairBytes
+    Exchange.pairPart Exchange.recordEnd Exchange.cutInto Exchange.recordsOf Exchange.fileAnswer Exchange.fileBytes
     Lines.digits Lines.decimal Lines.hexDigit Lines.hex Lines.three Lines.shown Lines.checkLines Lines.tickLine
     Lines.runLines Lines.signed Lines.rowText Lines.lateLine Lines.lateLines Lines.gridcheck Lines.gridrun Lines.gridlate
     printed said

@@ -50,6 +50,7 @@ wrapperForm w = lengthRule 54 wrapperLength w ∷ versionRule 54 1 w ∷ flagRul
 
 -- ---- what is tried of a record
 
+-- no rule was broken
 abbrev pub unbroken : Option Refusal → Bool
 unbroken none = true
 unbroken (some x) = false
@@ -131,8 +132,9 @@ abbrev pub recordAt : List (List ℕ) → ℕ → List ℕ
 recordAt ws k = getD ws k []
 
 -- "Hand back the one that stands .. a refusal hands back an empty part"
-unfoldable pub handedBack : List (List ℕ) → List ℕ
-handedBack ws = elim (standing ws) [ accepted r ↦ recordAt ws r | refused x ↦ [] ]
+unfoldable pub handedBack : List (List ℕ) → Answer ℕ → List ℕ
+handedBack ws (accepted r) = recordAt ws r
+handedBack ws (refused x) = []
 
 -- a part of the caller's bytes: the record's number, where its first byte stands, and how many bytes it has
 pub record Part : Type 0 where
@@ -140,12 +142,14 @@ pub record Part : Type 0 where
   pub offset : ℕ
   pub length : ℕ
 
--- the same answer with the part, where it is known where each record begins
-unfoldable pub placed : (ℕ → ℕ) → List (List ℕ) → Answer Part
-placed offset ws = elim (standing ws) [
-  | accepted r ↦ accepted (record { index = r; offset = offset r; length = length (recordAt ws r) })
-  | refused x ↦ refused x
-]
+-- the part of record r, where it is known where each record begins
+abbrev pub partOf : (ℕ → ℕ) → List (List ℕ) → ℕ → Part
+partOf offset ws r = record { index = r; offset = offset r; length = length (recordAt ws r) }
+
+-- the same answer with the part in the place of the number
+unfoldable pub placed : (ℕ → ℕ) → List (List ℕ) → Answer ℕ → Answer Part
+placed offset ws (accepted r) = accepted (partOf offset ws r)
+placed offset ws (refused x) = refused x
 
 -- ---- a pair: "in a pair" the length is "the bytes given"
 
@@ -157,11 +161,11 @@ unfoldable pub pairAnswer : List ℕ → List ℕ → Answer ℕ
 pairAnswer x y = standing (bothOf x y)
 
 unfoldable pub pairBytes : List ℕ → List ℕ → List ℕ
-pairBytes x y = handedBack (bothOf x y)
+pairBytes x y = handedBack (bothOf x y) (pairAnswer x y)
 
 -- the part of its own argument: each begins at 0
 unfoldable pub pairPart : List ℕ → List ℕ → Answer Part
-pairPart x y = placed (λ _. 0) (bothOf x y)
+pairPart x y = placed (λ _. 0) (bothOf x y) (pairAnswer x y)
 
 -- ---- a file: "wrapped records end to end"
 
@@ -185,7 +189,7 @@ abbrev pub offsetIn : List (List ℕ) → ℕ → ℕ
 offsetIn ws k = total k (λ j. length (recordAt ws j))
 
 unfoldable pub fileAnswer : List ℕ → Answer Part
-fileAnswer f = placed (offsetIn (recordsOf f)) (recordsOf f)
+fileAnswer f = placed (offsetIn (recordsOf f)) (recordsOf f) (standing (recordsOf f))
 
 unfoldable pub fileBytes : List ℕ → List ℕ
-fileBytes f = handedBack (recordsOf f)
+fileBytes f = handedBack (recordsOf f) (standing (recordsOf f))

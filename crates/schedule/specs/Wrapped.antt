@@ -5,6 +5,7 @@
 use Prim.Native.Nat.{ℕ}
 use mathlib.Core.List.{List, [], _∷_, _++_}
 use mathlib.Core.Path.{refl}
+use Rattle.schedule.specs.Bounded.{chain}
 use Rattle.schedule.specs.Answers.{accepted}
 use Rattle.schedule.specs.Cases.{every, patch, refuses, Case, Right, pair, file, parts}
 
@@ -31,6 +32,9 @@ live-2 = wrap 0 2 0 model
 abbrev gone-1 : List ℕ
 gone-1 = wrap 0 1 1 model
 
+abbrev gone-2 : List ℕ
+gone-2 = wrap 0 2 1 model
+
 abbrev other-1 : List ℕ
 other-1 = wrap 0 1 0 other
 
@@ -41,8 +45,8 @@ other-gone-1 = wrap 0 1 1 other
 abbrev but : ℕ → List ℕ → List ℕ
 but at new = patch at new live-1
 
--- a version 2 model of 37 bytes in a record of 49; inside it i is byte 22, the ends of the period are from byte 23 on, and the
--- loop byte is byte 48
+-- issue 3, live: a version 2 model of 37 bytes in a record of 49; its version is byte 16, i byte 22, the ends of the period are
+-- from byte 23 on, and the loop byte is byte 48
 abbrev newer : List ℕ
 newer =
     (0 ∷ 0 ∷ 0 ∷ 49 ∷ 1 ∷ 0 ∷ 0 ∷ 0 ∷ 7 ∷ 0 ∷ 3 ∷ 0 ∷ [])
@@ -50,13 +54,24 @@ newer =
     ++ (0 ∷ 0 ∷ 0 ∷ 0 ∷ 0 ∷ 0 ∷ 0 ∷ 0 ∷ 0 ∷ 5 ∷ [])
     ++ (0 ∷ 0 ∷ 1 ∷ 0 ∷ 1 ∷ 0 ∷ 0 ∷ 0 ∷ 0 ∷ 0 ∷ 0 ∷ 0 ∷ 0 ∷ 0 ∷ 0 ∷ 255 ∷ [])
 
+-- issue 1, live: a model of 16 activities in a record of 272 bytes, so that both lengths take two bytes
+abbrev long : List ℕ
+long =
+    (0 ∷ 0 ∷ 1 ∷ 16 ∷ 1 ∷ 0 ∷ 0 ∷ 0 ∷ 7 ∷ 0 ∷ 1 ∷ 0 ∷ [])
+    ++ (0 ∷ 0 ∷ 1 ∷ 4 ∷ 1 ∷ 1 ∷ 1 ∷ 16 ∷ 0 ∷ 1 ∷ [])
+    ++ (0 ∷ 0 ∷ 0 ∷ 0 ∷ 0 ∷ 0 ∷ 0 ∷ 0 ∷ 0 ∷ 5 ∷ [])
+    ++ chain 16 (λ _. 0 ∷ 0 ∷ 1 ∷ 0 ∷ 1 ∷ 0 ∷ 0 ∷ 0 ∷ 0 ∷ 0 ∷ 0 ∷ 0 ∷ 0 ∷ 0 ∷ 0 ∷ [])
+
 -- ---- what is expected
 
--- of a file: the record's number, its first byte and its bytes, of which there are 47; or the refusal's number and A, and
--- nothing handed back
+-- of a file: the record's number, its first byte, how many it has and what they are; or the refusal's number and A, and nothing
+-- handed back
+abbrev chosen-of : ℕ → List ℕ → ℕ → ℕ → List ℕ → List Case → List Case
+chosen-of size f index offset back rest =
+    record { asked = file f; expected = parts (accepted (record { index = index; offset = offset; length = size })) back } ∷ rest
+
 abbrev chosen : List ℕ → ℕ → ℕ → List ℕ → List Case → List Case
-chosen f index offset back rest =
-    record { asked = file f; expected = parts (accepted (record { index = index; offset = offset; length = 47 })) back } ∷ rest
+chosen = chosen-of 47
 
 abbrev turned-away : List ℕ → ℕ → ℕ → List Case → List Case
 turned-away f number a rest = record { asked = file f; expected = parts (refuses number a 0) [] } ∷ rest
@@ -80,16 +95,27 @@ pairs =
     (stands live-2 gone-1 0 live-2
     (stands live-1 live-1 0 live-1
     (stands gone-1 gone-1 0 gone-1
-    -- issues 255 and 256
+    -- a withdrawn one of a higher issue, over a live and over a withdrawn one
+    (stands live-1 gone-2 1 gone-2
+    (stands gone-2 live-1 0 gone-2
+    (stands gone-1 gone-2 1 gone-2
+    -- issues 0 and 65535, 255 and 256
+    (stands (wrap 0 0 0 model) (wrap 255 255 0 model) 1 (wrap 255 255 0 model)
     (stands (wrap 0 255 0 model) (wrap 1 0 0 model) 1 (wrap 1 0 0 model)
     (stands (wrap 1 0 0 model) (wrap 0 255 1 model) 0 (wrap 1 0 0 model)
     -- another text at another issue or flag is no copy
     (stands other-1 live-2 1 live-2
     (stands other-1 gone-1 1 gone-1
-    -- two series, and another text at equal rank
+    -- two series: at equal rank, at a lower issue, between withdrawn ones
     (neither live-1 (but 8 (8 ∷ [])) 55 1
+    (neither live-2 (but 8 (8 ∷ [])) 55 1
+    (neither gone-1 (patch 8 (8 ∷ []) gone-1) 55 1
+    -- another text at equal rank: of another length, or other in one byte, an early one and the last one among them
     (neither live-1 other-1 56 1
     (neither gone-1 other-gone-1 56 1
+    (neither (wrap 0 3 0 model) newer 56 1
+    (neither live-1 (but 17 (2 ∷ [])) 56 1
+    (neither newer (patch 48 (0 ∷ []) newer) 56 1
     -- no bytes; one byte more and one fewer than the length says; both wrong
     (neither [] live-1 54 0
     (neither live-1 [] 54 1
@@ -98,10 +124,13 @@ pairs =
     (neither live-1 (but 3 (48 ∷ [])) 54 1
     (neither live-1 (but 3 (46 ∷ [])) 54 1
     (neither (but 11 (2 ∷ [])) (but 4 (2 ∷ [])) 54 0
+    -- the version and the model of the second
+    (neither live-1 (patch 4 (2 ∷ []) live-2) 54 1
+    (neither live-1 (patch 42 (1 ∷ []) live-2) 54 1
     -- 54 before 55; and a file of two is no record
     (neither live-1 (patch 8 (8 ∷ []) (but 11 (2 ∷ []))) 54 1
     (neither (live-1 ++ live-2) live-1 54 0
-    [])))))))))))))))))))))
+    []))))))))))))))))))))))))))))))))
 
 -- ---- files
 
@@ -120,8 +149,14 @@ files =
     (chosen (live-1 ++ live-1 ++ live-2 ++ gone-1) 2 94 live-2
     -- issues 255 and 256
     (chosen (wrap 0 255 1 model ++ wrap 1 0 0 model) 1 47 (wrap 1 0 0 model)
+    -- records of several lengths, and a sixth record
+    (chosen (live-1 ++ newer ++ wrap 0 4 0 model) 2 96 (wrap 0 4 0 model)
+    (chosen-of 49 (live-1 ++ gone-1 ++ newer) 2 94 newer
+    (chosen-of 272 (long ++ wrap 0 0 1 model) 0 0 long
+    (chosen (long ++ live-2) 1 272 live-2
+    (chosen (live-1 ++ live-1 ++ live-1 ++ live-1 ++ live-1 ++ live-2) 5 235 live-2
     -- two series, in each of the four bytes
-    (turned-away (live-1 ++ but 5 (1 ∷ [])) 55 1
+    (turned-away (live-1 ++ but 5 (128 ∷ [])) 55 1
     (turned-away (live-1 ++ but 6 (1 ∷ [])) 55 1
     (turned-away (live-1 ++ but 7 (1 ∷ [])) 55 1
     (turned-away (live-1 ++ but 8 (8 ∷ [])) 55 1
@@ -150,19 +185,17 @@ files =
     (turned-away (but 4 (2 ∷ [])) 54 0
     (turned-away (but 11 (2 ∷ [])) 54 0
     (turned-away (but 11 (255 ∷ [])) 54 0
-    -- the model's own refusals: 1, 2, 3, 5, 6, 7; and of version 2 none, 51, 52, 53
+    -- the model's own refusals: 1, 3, 4, 5, 6, 7; and of version 2 none, 2, 51, 52, 53
     (turned-away (but 15 (36 ∷ [])) 54 0
-    (turned-away (but 16 (0 ∷ [])) 54 0
     (turned-away (but 17 (9 ∷ [])) 54 0
+    (turned-away (patch 15 (36 ∷ []) (but 3 (48 ∷ [])) ++ (0 ∷ [])) 54 0
     (turned-away (but 27 (1 ∷ [])) 54 0
     (turned-away (but 32 (1 ∷ [])) 54 0
     (turned-away (but 42 (1 ∷ [])) 54 0
-    (record {
-      asked = file newer;
-      expected = parts (accepted (record { index = 0; offset = 0; length = 49 })) newer;
-    }
-    ∷ turned-away (patch 22 (5 ∷ []) newer) 54 0
-    (turned-away (patch 26 (1 ∷ []) newer) 54 0
+    (chosen-of 49 newer 0 0 newer
+    (turned-away (patch 16 (255 ∷ []) newer) 54 0
+    (turned-away (patch 22 (5 ∷ []) newer) 54 0
+    (turned-away (patch 23 (0 ∷ 1 ∷ 0 ∷ 2 ∷ []) newer) 54 0
     (turned-away (patch 48 (1 ∷ []) newer) 54 0
     -- after a good start: 1 byte and 4 bytes left, a flag, a length past the end
     (turned-away (live-1 ++ (0 ∷ [])) 54 1
@@ -173,7 +206,9 @@ files =
     (turned-away (live-1 ++ patch 8 (8 ∷ []) (but 11 (2 ∷ []))) 54 1
     (turned-away (live-1 ++ but 8 (8 ∷ []) ++ (0 ∷ [])) 55 1
     (turned-away (live-1 ++ other-1 ++ (0 ∷ [])) 56 1
-    []))))))))))))))))))))))))))))))))))))))))))))))))))
+    -- 56 at a record before 55 at the next
+    (turned-away (live-1 ++ other-1 ++ patch 8 (8 ∷ []) live-2) 56 1
+    []))))))))))))))))))))))))))))))))))))))))))))))))))))))))))
 
 -- the rules say so
 pub wrapped-pairs : Right pairs

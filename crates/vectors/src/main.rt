@@ -279,7 +279,7 @@ fn next_pair(fd: i32) {
     let mut second = [0u8; 1024];
     let f = next_record(fd, &mut first);
     let s = next_record(fd, &mut second);
-    print_standing(exchange::which(&first[..f], &second[..s]));
+    print_standing(exchange::which_stands(&first[..f], &second[..s]));
     print_bytes(b"part", exchange::stands(&first[..f], &second[..s]));
 }
 

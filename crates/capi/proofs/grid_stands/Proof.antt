@@ -7,8 +7,8 @@ use borrow.Author.Needs.{needs}
 use Rattle.capi.proofs.grid_stands.Statement.{statement}
 use Rattle.capi.proofs.grid_stands.Tie as tie
 
-which-requires : tie.Need-which-requires
-which-requires c κs = search needs
+which-stands-requires : tie.Need-which-stands-requires
+which-stands-requires c κs = search needs
 
 enum-told : tie.Need-enum-told
 enum-told c = search needs
@@ -33,27 +33,27 @@ returns c =
     let x = c .before .before .before .before .before .before .args in
     c .part .ensures
     ∙ ap partExported (sym (pair-placed (x .first .now) (x .second .now) 0
-    (sym (c .before .before .before .which .ensures) ∙ ap standingNumbers (c .before .enum-told .given .1))))
+    (sym (c .before .before .before .which-stands .ensures) ∙ ap standingNumbers (c .before .enum-told .given .1))))
 
 returns-2 : tie.Need-returns-2
 returns-2 c =
     let x = c .before .before .before .before .before .before .args in
     c .part2 .ensures
     ∙ ap partExported (sym (pair-placed (x .first .now) (x .second .now) 1
-    (sym (c .before .before .before .which .ensures) ∙ ap standingNumbers (c .before .enum-told2 .given .1))))
+    (sym (c .before .before .before .which-stands .ensures) ∙ ap standingNumbers (c .before .enum-told2 .given .1))))
 
 returns-3 : tie.Need-returns-3
 returns-3 c =
     let x = c .before .before .before .before .before .before .before .args in
     c .part-refusal .ensures
     ∙ ap partExported (sym (pair-refused (x .first .now) (x .second .now) _
-    (sym (c .before .before .before .before .which .ensures) ∙ ap standingNumbers (c .before .before .found .given .1))))
+    (sym (c .before .before .before .before .which-stands .ensures) ∙ ap standingNumbers (c .before .before .found .given .1))))
 
 pub grid-stands-spec : {M : Type 1} → statement M
 grid-stands-spec =
     tie.close
     (tie.spec
-    which-requires
+    which-stands-requires
     enum-told
     part-requires
     enum-told-2

@@ -16,7 +16,7 @@ bytes-of-requires : tie.Need-bytes-of-requires
 bytes-of-requires c κs =
     let at-choose = c .before .before .before in
     chosen-part (at-choose .before .before .args .file .now) _
-    (sym (at-choose .choose .ensures) ∙ ap chosenNumbers (c .before .found .given .1)) .1 .0
+    (sym (at-choose .choose .ensures) ∙ ap chosenNumbers (c .before .found .given .1)) .inside
 
 enum-told : tie.Need-enum-told
 enum-told c = search needs
@@ -32,9 +32,10 @@ part-result-end c = search needs
 
 returns : tie.Need-returns
 returns c =
-    c .bytes-of .ensures
-    ∙ sym (chosen-part (c .before .before .before .before .before .before .args .file .now) _
-    (sym (c .before .before .before .before .choose .ensures) ∙ ap chosenNumbers (c .before .before .found .given .1)) .1 .1)
+    let at-choose = c .before .before .before .before in
+    let part = chosen-part (at-choose .before .before .args .file .now) _
+    (sym (at-choose .choose .ensures) ∙ ap chosenNumbers (c .before .before .found .given .1)) in
+    c .bytes-of .ensures ∙ sym (part .bytes ∙ part .lies)
 
 returns-2 : tie.Need-returns-2
 returns-2 c =

@@ -6,8 +6,8 @@ use borrow.Author.Needs.{needs}
 use Rattle.exchange.proofs.stands.Statement.{statement}
 use Rattle.exchange.proofs.stands.Tie as tie
 
-which-requires : tie.Need-which-requires
-which-requires c κs = search needs
+which-stands-requires : tie.Need-which-stands-requires
+which-stands-requires c κs = search needs
 
 enum-told : tie.Need-enum-told
 enum-told c = search needs
@@ -31,25 +31,25 @@ returns : tie.Need-returns
 returns c =
     let x = c .before .before .before .before .before .args in
     sym (pair-part (x .first .now) (x .second .now) 0
-    (sym (c .before .before .which .ensures) ∙ ap standingNumbers (c .enum-told .given .1)))
+    (sym (c .before .before .which-stands .ensures) ∙ ap standingNumbers (c .enum-told .given .1)))
 
 returns-2 : tie.Need-returns-2
 returns-2 c =
     let x = c .before .before .before .before .before .args in
     sym (pair-part (x .first .now) (x .second .now) 1
-    (sym (c .before .before .which .ensures) ∙ ap standingNumbers (c .enum-told2 .given .1)))
+    (sym (c .before .before .which-stands .ensures) ∙ ap standingNumbers (c .enum-told2 .given .1)))
 
 returns-3 : tie.Need-returns-3
 returns-3 c =
     let x = c .before .before .before .before .before .before .args in
     sym (pair-nothing (x .first .now) (x .second .now) _
-    (sym (c .before .before .before .which .ensures) ∙ ap standingNumbers (c .before .enum-told3 .given .1)))
+    (sym (c .before .before .before .which-stands .ensures) ∙ ap standingNumbers (c .before .enum-told3 .given .1)))
 
 pub stands-spec : {M : Type 1} → statement M
 stands-spec =
     tie.close
     (tie.spec
-    which-requires
+    which-stands-requires
     enum-told
     enum-told-2
     enum-told-3

@@ -1,12 +1,12 @@
--- `exchange::which` meets its contract: the first record alone, then the second beside it. Assumes nothing.
+-- `exchange::which_stands` meets its contract: the first record alone, then the second beside it. Assumes nothing.
 use mathlib.Core.Bool.{Bool, cond}
 use mathlib.Core.Path.{sym, ap, _∙_}
 use Rattle.schedule.specs.Answers.{accepted}
 use Rattle.records.proofs.Reading.{told-no, told-yes}
 use Rattle.exchange.proofs.AlongLaws.{pair-unright, pair-refused, pair-taken}
 use borrow.Author.Needs.{needs}
-use Rattle.exchange.proofs.which.Statement.{statement}
-use Rattle.exchange.proofs.which.Tie as tie
+use Rattle.exchange.proofs.which_stands.Statement.{statement}
+use Rattle.exchange.proofs.which_stands.Tie as tie
 
 wrapper-holds-requires : tie.Need-wrapper-holds-requires
 wrapper-holds-requires c κs = search needs
@@ -51,8 +51,8 @@ returns-4 c =
     (c4 .compare .ensures) (c .before .before .found2 .given .1)
     ∙ ap (λ (b : Bool). cond b (accepted 1) (accepted 0)) (c .if2 .left))
 
-pub which-spec : {M : Type 1} → statement M
-which-spec =
+pub which-stands-spec : {M : Type 1} → statement M
+which-stands-spec =
     tie.close
     (tie.spec
     wrapper-holds-requires
