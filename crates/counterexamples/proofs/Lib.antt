@@ -3,3 +3,4 @@ pub mod WrongDeadlines
 pub mod WrongRemovals
 pub mod UrgentClaims
 pub mod UrgentCases
+pub mod MorePages

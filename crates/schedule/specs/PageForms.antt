@@ -46,7 +46,7 @@ cases =
     (says (but 4 (3 ∷ [])) (refuses 2 0 0)
     (says (patch 4 (2 ∷ []) modelS) (refuses 4 0 0)
     (says (0 ∷ 0 ∷ 0 ∷ 10 ∷ 2 ∷ 1 ∷ 1 ∷ 1 ∷ 0 ∷ 8 ∷ []) (refuses 4 0 0)
-    -- 51: i 0 and 5, and 4 with one row each; i times n is 9, and 8 with `four-times` of Pages; i times m is 33, and 32
+    -- 51: i 0 and 5, and 4 with one row each; i times n is 9, and 8 with `four-times` of MorePages; i times m is 33, and 32
     (says (but 10 (0 ∷ [])) (refuses 51 0 0)
     (says (zeros 37 1 1 5 26) (refuses 51 0 0)
     (says (zeros 37 1 1 4 26) (refuses 6 0 0)
