@@ -78,14 +78,15 @@ cases =
     (says (but 46 (0 ∷ [])) (accepts 7 10 10)
     (says (but-two 10 (1 ∷ []) 46 (2 ∷ [])) (refuses 53 0 0)
     (says (but-two 10 (1 ∷ []) 46 (1 ∷ [])) (refuses 10 0 0)
-    -- 53 before 7
+    -- 53 before 7, by either mask
     (says (but-two 62 (2 ∷ []) 41 (1 ∷ [])) (refuses 53 1 0)
     (says (but 41 (1 ∷ [])) (refuses 7 0 0)
+    (says (but 45 (1 ∷ [])) (refuses 7 0 0)
     -- a choice keeps version 1, and S is the same page in version 2 with i 1
     (record { asked = run earlier (patch 4 (2 ∷ []) earlier-choice); expected = verdict (refuses 9 0 0) }
     ∷ record { asked = unrolls S-in-version-2; expected = numbers modelS }
     ∷ record { asked = run S-in-version-2 choiceS; expected = verdict (accepts 5 8 6) }
-    ∷ []))))))))))))))))))))))))))))))))
+    ∷ [])))))))))))))))))))))))))))))))))
 
 -- the rules say so
 pub form-cases : Right cases
