@@ -248,14 +248,14 @@ finish f x index at h l =
 
 -- ---- the same in the terms of the code: the parts and the bytes that its calls gave
 
-pub starts-refused : (f : List ℕ) (x : Part) (w : List ℕ) → x ≡ partAt f 0 0 → w ≡ bytesAt f x → isRight w ≡ false
+pub first-refused : (f : List ℕ) (x : Part) (w : List ℕ) → x ≡ partAt f 0 0 → w ≡ bytesAt f x → isRight w ≡ false
     → fileAnswer f ≡ turned 54 0
-starts-refused f x w e d r =
+first-refused f x w e d r =
     start-refused f (subst (λ (v : List ℕ). isRight v ≡ false) (d ∙ ap (bytesAt f) e) r)
 
-pub starts : (f : List ℕ) (x : Part) (w : List ℕ) → x ≡ partAt f 0 0 → w ≡ bytesAt f x → isRight w ≡ true
+pub first-taken : (f : List ℕ) (x : Part) (w : List ℕ) → x ≡ partAt f 0 0 → w ≡ bytesAt f x → isRight w ≡ true
     → Along f x 1 (x .length)
-starts f x w e d r =
+first-taken f x w e d r =
     subst (λ (y : Part). Along f y 1 (y .length)) (sym e)
     (start f (subst (λ (v : List ℕ). isRight v ≡ true) (d ∙ ap (bytesAt f) e) r))
 
@@ -272,18 +272,18 @@ ends-inside f x index at e l =
     subst (λ (y : Part). (0 < y .length) × (at + y .length ≤ length f)) (sym e)
     (end-above (drop at f) (omega (arith, l, length-drop at f)), omega (arith, l, end-le (drop at f), length-drop at f))
 
-pub steps-refused : (f : List ℕ) (x y : Part) (index at : ℕ) (X W : List ℕ) → Along f x index at → at < length f
+pub next-refused : (f : List ℕ) (x y : Part) (index at : ℕ) (X W : List ℕ) → Along f x index at → at < length f
     → y ≡ partAt f index at → X ≡ bytesAt f x → W ≡ bytesAt f y → (found : Compared) (why : WrapRefusal)
     → Beside X W found → found ≡ Compared.Refused why → fileAnswer f ≡ refused (wrapNumbers why index)
-steps-refused f x y index at X W h l e dX dW found why b =
+next-refused f x y index at X W h l e dX dW found why b =
     step-refused f x index at h l found why
     (subst (λ (w : List ℕ). Beside (bytesAt f x) w found) (dW ∙ ap (bytesAt f) e)
     (subst (λ (w : List ℕ). Beside w W found) dX b))
 
-pub steps-on : (f : List ℕ) (x y z : Part) (index at : ℕ) (X W : List ℕ) → Along f x index at → at < length f
+pub next-taken : (f : List ℕ) (x y z : Part) (index at : ℕ) (X W : List ℕ) → Along f x index at → at < length f
     → y ≡ partAt f index at → X ≡ bytesAt f x → W ≡ bytesAt f y → (found : Compared) (above : Bool)
     → Beside X W found → found ≡ Compared.Taken above → z ≡ cond above y x → Along f z (index + 1) (at + y .length)
-steps-on f x y z index at X W h l e dX dW found above b t u =
+next-taken f x y z index at X W h l e dX dW found above b t u =
     subst (λ (v : Part). Along f v (index + 1) (at + y .length)) (sym u)
     (subst (λ (v : Part). Along f (cond above v x) (index + 1) (at + v .length)) (sym e)
     (step-taken f x index at h l found above

@@ -6,9 +6,9 @@ use native.Mathlib.Numerals.{add-one}
 use native.Mathlib.Omega.{arith}
 use mathlib.Core.Bool.{Bool, true, false, cond}
 use mathlib.Core.List.{List, [], _∷_, _++_}
-use mathlib.Core.Logic.{_⊎_, inl, inr, _↔_, ⊎-elim}
+use mathlib.Core.Logic.{_⊎_, inl, inr, _↔_, ⊎-elim, Iff·rfl}
 use mathlib.Core.Path.{_≡_, refl, sym, subst, ap, ap₂, _∙_}
-use lib.Dec.{T, leb}
+use lib.Dec.{T}
 use lib.ListN.{length, getD, take, drop, length-drop}
 use lib.Seq.{take-all, length-take-le, drop-cons, drop-drop, take-add}
 use Rattle.schedule.specs.Bounded.{total, chain}
@@ -18,7 +18,7 @@ use Rattle.schedule.specs.Rule.{Refusal}
 use Rattle.schedule.specs.Answers.{accepted, refused}
 use Rattle.schedule.specs.Exchange.{wrapperLength, standing, recordAt, handedBack, Part, partOf}
 use Rattle.schedule.specs.Exchange.{recordEnd, cutInto, recordsOf, offsetIn, fileAnswer, fileBytes}
-use Rattle.laws.proofs.Tests.{T-and, T-leb}
+use Rattle.laws.proofs.Tests.{tests}
 use Rattle.laws.proofs.WrappedLaws.{standing-lt, placed-from, refused-from}
 
 -- ---- where a record ends
@@ -27,20 +27,13 @@ by-cond : {P : Type 0} (b : Bool) (k n : ℕ) → T b ↔ P → (P × (cond b k 
 by-cond true k n h = inl (h .0 tt, refl)
 by-cond false k n h = inr (h .1, refl)
 
-pub T-within : (low high x : ℕ) → T (within low high x) ↔ Within low high x
-T-within low high x = (
-  λ t. let both = T-and (leb low x) (leb x high) .0 t in (T-leb low x .0 (both .0), T-leb x high .0 (both .1)),
-  λ h. T-and (leb low x) (leb x high) .1 (T-leb low x .1 (h .0), T-leb x high .1 (h .1)),
-)
-
 -- behind as many bytes as the length says, or at the end
 pub ends : (f : List ℕ)
     → (Within wrapperLength (length f) (field f 0 4) × (recordEnd f ≡ field f 0 4))
     ⊎ ((¬ Within wrapperLength (length f) (field f 0 4)) × (recordEnd f ≡ length f))
 unfolding recordEnd
 ends f =
-    by-cond (within wrapperLength (length f) (field f 0 4)) (field f 0 4) (length f)
-    (T-within wrapperLength (length f) (field f 0 4))
+    by-cond (within wrapperLength (length f) (field f 0 4)) (field f 0 4) (length f) (simp tests Iff·rfl)
 
 pub end-le : (f : List ℕ) → recordEnd f ≤ length f
 end-le f = ⊎-elim (λ h. omega (arith, h .0 .1, h .1)) (λ h. omega (arith, h .1)) (ends f)

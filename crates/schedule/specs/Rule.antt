@@ -1,5 +1,6 @@
 -- Rules tried in order, each over all its places before the next, and the first one that is broken.
--- Every refusal of the paper but 41, which names a length and no place, is such a rule, so "first broken" is said once.
+-- Every refusal of 01 but 41, which names a length and no place, is such a rule, and so are those of 02 but that of an empty
+-- file; so "first broken" is said once.
 -- Assumes nothing.
 use Prim.Native.Nat.{ℕ, _<_}
 use mathlib.Core.Bool.{Bool, cond}

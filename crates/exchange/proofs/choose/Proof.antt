@@ -4,7 +4,7 @@ use native.Mathlib.Omega.{arith}
 use mathlib.Core.Path.{sym}
 use lib.ListN.{length}
 use Rattle.records.proofs.Reading.{told-no, told-yes}
-use Rattle.exchange.proofs.AlongLaws.{Along, finish, starts-refused, starts, inside, ends-inside, steps-refused, steps-on}
+use Rattle.exchange.proofs.AlongLaws.{Along, finish, first-refused, first-taken, inside, ends-inside, next-refused, next-taken}
 use borrow.Author.Needs.{needs}
 use Rattle.exchange.proofs.choose.Statement.{statement}
 use Rattle.exchange.proofs.choose.Tie as tie
@@ -27,13 +27,13 @@ wrapper-holds-requires c κs = search needs
 returns : tie.Need-returns Inv-loop μ-loop
 returns c =
     let c3 = c .before .before .before in
-    sym (starts-refused (c3 .before .before .args .file .now) _ _ (c3 .record-at .ensures) (c .before .before .bytes-of .ensures)
+    sym (first-refused (c3 .before .before .args .file .now) _ _ (c3 .record-at .ensures) (c .before .before .bytes-of .ensures)
     (told-no (c .before .wrapper-holds .ensures) (c .if1 .taken)))
 
 loop-holds : tie.Need-loop-holds Inv-loop μ-loop
 loop-holds c =
     let c3 = c .before .before .before in
-    starts (c3 .before .before .args .file .now) _ _ (c3 .record-at .ensures) (c .before .before .bytes-of .ensures)
+    first-taken (c3 .before .before .args .file .now) _ _ (c3 .record-at .ensures) (c .before .before .bytes-of .ensures)
     (told-yes (c .before .wrapper-holds .ensures) (c .if1 .left))
 
 record-at-requires-2 : tie.Need-record-at-requires-2 Inv-loop μ-loop
@@ -62,7 +62,7 @@ returns-2 c =
     let at-loop = at-next .before .before in
     let start = at-loop .before .before .before .before .before .before in
     let l = at-loop .loop in
-    sym (steps-refused (start .args .file .now) _ _ (l .index) (l .at) _ _ (l .inv) (at-next .before .loop-test .taken)
+    sym (next-refused (start .args .file .now) _ _ (l .index) (l .at) _ _ (l .inv) (at-next .before .loop-test .taken)
     (at-next .record-at2 .ensures) (at-compare .before .before .bytes-of2 .ensures) (at-compare .before .bytes-of3 .ensures)
     _ _ (at-compare .compare .ensures) (c .before .found .given .1))
 
@@ -109,7 +109,7 @@ loop-again c =
     let at-loop = at-next .before .before in
     let start = at-loop .before .before .before .before .before .before in
     let l = at-loop .loop in
-    steps-on (start .args .file .now) _ _ _ (l .index) (l .at) _ _ (l .inv) (at-next .before .loop-test .taken)
+    next-taken (start .args .file .now) _ _ _ (l .index) (l .at) _ _ (l .inv) (at-next .before .loop-test .taken)
     (at-next .record-at2 .ensures) (at-compare .before .before .bytes-of2 .ensures) (at-compare .before .bytes-of3 .ensures)
     _ _ (at-compare .compare .ensures) (c .before .before .before .found2 .given .1) (c .before .upper .ensures)
 
