@@ -19,7 +19,7 @@ ghost use Rattle.schedule.specs.declared.FormRefusal.{FormRefusal};
 ghost use Rattle.schedule.specs.declared.RuleRefusal.{RuleRefusal};
 ghost use Rattle.schedule.specs.Numbers.{formNumber, ruleNumber, runNumber, refusalNumbers, numbersOf, runNumbers, wrapNumber};
 
-// 5 to 7, 52 and 53.
+// 5 to 7, 52, 53 and 57.
 fn row_number(rule: RowRule) -> u32
     ensures { λ r. ⌜ r ≡ formNumber (FormRefusal.ModelRow rule) ⌝ }
 {
@@ -28,11 +28,12 @@ fn row_number(rule: RowRule) -> u32
         RowRule::Period => 52,
         RowRule::Activity => 6,
         RowRule::Loop => 53,
+        RowRule::Width => 57,
         RowRule::Masks => 7,
     }
 }
 
-// 1 to 14, and 51 to 53.
+// 1 to 14, 51 to 53, and 57.
 fn form_number(why: FormRefusal) -> u32
     ensures { λ r. ⌜ r ≡ formNumber why ⌝ }
 {

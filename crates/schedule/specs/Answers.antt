@@ -7,14 +7,14 @@ use mathlib.Core.Option.{Option, some, none}
 use mathlib.Core.Path.{_≡_}
 use lib.Dec.{eqb, ltb}
 use lib.ListN.{length, drop, replicate}
-use Rattle.schedule.specs.Bounded.{total, greatest, least, ones}
+use Rattle.schedule.specs.Bounded.{total, greatest, least}
 use Rattle.schedule.specs.Rule.{Rule, Refusal, firstBreak, AllHold}
 use Rattle.schedule.specs.Model.{Model, model, modelForm}
 use Rattle.schedule.specs.Timing.{deadlineRule}
 use Rattle.schedule.specs.Choice.{Choice, choice, choiceTiming, choiceForm}
 use Rattle.schedule.specs.Plan.{Plan, plan, planForm, planLength, planBytes}
 use Rattle.schedule.specs.Machine.{machineWord, machineStart, machineEnd, machineOwes}
-use Rattle.schedule.specs.Checks.{plainRules, strictRules}
+use Rattle.schedule.specs.Checks.{load, plainRules, strictRules}
 
 -- what a call answers: what a pass answers, or the refusal
 pub data Answer (F : Type 0) : Type 0 where
@@ -32,10 +32,10 @@ pub record Figures : Type 0 where
   pub capacity : ℕ
   pub makespan : ℕ
 
--- usage is counted from the words; makespan is the greatest end less the least release over all threads
+-- usage is counted from the words, "in core ticks" (U7 of 02); makespan is the greatest end less the least release over all threads
 unfoldable pub figures : Model → Plan → Figures
 figures m p = record {
-  usage = total (m .horizon) (λ t. ones (p .word t));
+  usage = total (m .horizon) (λ t. load m p t);
   capacity = m .cores * m .horizon;
   makespan = greatest (m .activities) (p .end) - least (m .threads) (p .release);
 }
@@ -100,7 +100,7 @@ written m q = record { length = lengthNeeded m; figures = figures m (machinePlan
 unfoldable pub runChecks : List ℕ → List ℕ → List Rule
 runChecks s q = modelForm s ++ choiceForm (model s) q
 
--- How the run ends, by where its refusal comes from: "From the input" (1 to 13 and 51 to 53), or "From the state of the buffer
+-- How the run ends, by where its refusal comes from: "From the input" (1 to 13, 51 to 53 and 57), or "From the state of the buffer
 -- or run", which is the buffer's room (41) or the run itself (42 and 43); or with a plan written.
 pub data Outcome : Type 0 where
   from-input : Refusal → Outcome
@@ -144,7 +144,7 @@ bufferAfter (succeeded w) m q buffer = planBytes (machinePlan m q) ++ drop (w .l
 unfoldable pub runBuffer : List ℕ → List ℕ → List ℕ → List ℕ
 runBuffer s q buffer = bufferAfter (runOutcome s q (length buffer)) (model s) (choice q) buffer
 
--- "A model that passes 1 to 7 meets its form rules": with 51 to 53 among them (02)
+-- "A model that passes 1 to 7 meets its form rules": with 51 to 53 and 57 among them (02)
 abbrev pub MeetsForm : List ℕ → Type 0
 MeetsForm s = AllHold (modelForm s)
 

@@ -1,7 +1,7 @@
 -- Quantifiers, counting, sums, extremes and search over the numbers below a bound, and a word as a set of small numbers.
 -- Assumes nothing.
 use Prim.Native.Nat.{ℕ, zero, suc, _+_, _-_, _/_, _%_, _^_, max, min}
-use mathlib.Core.Bool.{Bool, true, false, _&&_, not, cond}
+use mathlib.Core.Bool.{Bool, true, false, _&&_, _||_, not, cond}
 use mathlib.Core.List.{List, [], _∷_, _++_}
 use mathlib.Core.Option.{Option, some, none}
 use lib.Dec.{eqb, ltb}
@@ -52,6 +52,11 @@ first (suc n) f = elim (first n f) [ some x ↦ some x | none ↦ f n ]
 unfoldable pub table : {A : Type 0} → ℕ → (ℕ → A) → List A
 table zero f = []
 table (suc n) f = table n f ++ (f n ∷ [])
+
+-- a stands in a list
+unfoldable pub member : ℕ → List ℕ → Bool
+member a [] = false
+member a (b ∷ l) = eqb a b || member a l
 
 -- the lists f 0, f 1, .., f (n - 1), one after the other
 unfoldable pub chain : ℕ → (ℕ → List ℕ) → List ℕ

@@ -45,7 +45,7 @@ accepts u c h = accepted (record { usage = u; capacity = c; makespan = h })
 abbrev pub refuses : {F : Type 0} → ℕ → ℕ → ℕ → Answer F
 refuses number a b = refused (record { number = number; A = a; B = b })
 
--- What is asked: the version 1 record of the model that some bytes say; both checks of a model's and a plan's bytes, or the
+-- What is asked: the record of one round of the model that some bytes say; both checks of a model's and a plan's bytes, or the
 -- plan's efes; the run of a model's and a choice's bytes, or the machine's words, starts or ends, or the bytes that it writes
 -- into a buffer of the plan's length; the report of a model's and a choice's bytes with a lent list; which of two wrapped
 -- records stands; which record of a file is chosen.
@@ -101,15 +101,16 @@ Right cases = map (λ c. said (c .asked)) cases ≡ map (λ c. c .expected) case
 -- every definition of the rules, of the lines and of this file, to be unfolded together where a table is computed
 unfoldable pub every : Unit {0}
 unfolding Bounded.all Bounded.count Bounded.total Bounded.greatest Bounded.least Bounded.lowest Bounded.first
-    Bounded.table Bounded.chain Bounded.bit Bounded.withBit Bounded.wordOf Bounded.ones
+    Bounded.table Bounded.member Bounded.chain Bounded.bit Bounded.withBit Bounded.wordOf
     Fields.field Fields.bytes
     Rule.break Rule.firstBreak
-    Model.page Model.unrolled Model.model Model.modelForm ModelBytes.modelBytes
+    Model.page Model.unrolled Model.model Model.modelForm ModelBytes.plainVersion
+    ModelBytes.roundBytes ModelBytes.modelBytes
     Timing.inTime Choice.choice Choice.choiceForm Plan.plan Plan.planBytes Plan.planForm
     Opened.form-rules Opened.check-rules
-    Machine.endedBy Machine.ready Machine.before Machine.rank Machine.selected Machine.wordAt Machine.initial Machine.step
-    Machine.stateAt Machine.machineWord Machine.machineStart Machine.machineEnd Machine.machineOwes
-    Checks.countOf Checks.efeFrom Checks.efes Checks.efe Checks.waits Checks.window
+    Machine.endedBy Machine.ready Machine.before Machine.insert Machine.inRank Machine.walk Machine.walked Machine.wordAt
+    Machine.initial Machine.step Machine.stateAt Machine.machineWord Machine.machineStart Machine.machineEnd Machine.machineOwes
+    Checks.countOf Checks.efeFrom Checks.efes Checks.efe Checks.waits Checks.coresOf Checks.contends Checks.window
     Checks.plainRules Checks.strictRules
     Answers.answer Answers.figures Answers.plainChecks Answers.strictChecks Answers.plainVerdict Answers.strictVerdict
     Answers.machinePlan Answers.owedRule Answers.runRules Answers.lengthNeeded Answers.runChecks Answers.concluded

@@ -10,12 +10,13 @@ use lib.ListN.{getD}
 use Rattle.schedule.specs.declared.ActivityRule.{ActivityRule}
 use Rattle.schedule.specs.declared.TickRule.{TickRule}
 use Rattle.schedule.specs.declared.RuleRefusal.{RuleRefusal}
-use Rattle.schedule.specs.Bounded.{all, count, greatest, ones, _⇒_}
+use Rattle.schedule.specs.Bounded.{all, count, total, greatest, _⇒_}
 use Rattle.schedule.specs.Rule.{Rule, rulesNamed}
 use Rattle.schedule.specs.Records.{Within, within}
 use Rattle.schedule.specs.Model.{Model, priorityOf, temporally, byData}
 use Rattle.schedule.specs.Timing.{deadlineRule}
 use Rattle.schedule.specs.Plan.{Plan, planTiming, active}
+use Rattle.schedule.specs.Machine.{before}
 
 -- "count(a) is the number of words with bit a"
 unfoldable pub countOf : Model → Plan → ℕ → ℕ
@@ -54,6 +55,26 @@ waits m p t a =
     (not (active p t a) && (leb (efe m p a) t && ltb t (p .end a)))
     && (all (m .activities) (λ b. temporally m b a ⇒ leb (p .end b + m .delay b) t)
     && all (m .activities) (λ b. byData m b a ⇒ leb (p .end b) t))
+
+-- the cores that some activities take: the sum of their widths (U7 of 02)
+unfoldable pub coresOf : Model → (ℕ → Bool) → ℕ
+coresOf m these = total (m .activities) (λ a. cond (these a) (m .width a) 0)
+
+-- the cores that those among them take that rank before activity b
+abbrev pub ahead : Model → (ℕ → Bool) → ℕ → ℕ
+ahead m these b = coresOf m (λ a. these a && before m a b)
+
+-- "The ones in a word become the sum of active widths"
+abbrev pub load : Model → Plan → ℕ → ℕ
+load m p t = coresOf m (active p t)
+
+-- "a waiting activity counts only if its width is at most c less the widths of active activities ranked before it"
+pub record Contends (m : Model) (p : Plan) (t b : ℕ) : Type 0 where
+  pub waiting : Waiting m p t b
+  pub fits : m .width b + ahead m (active p t) b ≤ m .cores
+
+unfoldable pub contends : Model → Plan → ℕ → ℕ → Bool
+contends m p t b = waits m p t b && leb (m .width b + ahead m (active p t) b) (m .cores)
 
 -- 21 window: start < end ≤ H, bits set at start and end − 1, none outside. A activity.
 pub record Window (m : Model) (p : Plan) (a : ℕ) : Type 0 where
@@ -122,47 +143,47 @@ rule27 m p = record {
   test = λ a _. leb (efe m p a) (p .start a);
 }
 
--- 28 at most c ones in the word. A tick.
+-- 28 at most c ones in the word: active widths of no more than c. A tick.
 unfoldable pub rule28 : Model → Plan → Rule
 rule28 m p = record {
   number = 28;
   rows = m .horizon;
   columns = 1;
-  Holds = λ t _. ones (p .word t) ≤ m .cores;
-  test = λ t _. leb (ones (p .word t)) (m .cores);
+  Holds = λ t _. load m p t ≤ m .cores;
+  test = λ t _. leb (load m p t) (m .cores);
 }
 
--- 29 with exactly c ones, no waiting B has a priority above an active one's. A tick.
+-- 29 with exactly c ones, no waiting B that counts has a priority above an active one's. A tick.
 unfoldable pub rule29 : Model → Plan → Rule
 rule29 m p = record {
   number = 29;
   rows = m .horizon;
   columns = m .activities;
-  Holds = λ t b. ones (p .word t) ≡ m .cores → Waiting m p t b
+  Holds = λ t b. load m p t ≡ m .cores → Contends m p t b
       → (a : ℕ) → a < m .activities → T (active p t a) → priorityOf m b ≤ priorityOf m a;
-  test = λ t b. eqb (ones (p .word t)) (m .cores) ⇒ waits m p t b
+  test = λ t b. eqb (load m p t) (m .cores) ⇒ contends m p t b
       ⇒ all (m .activities) (λ a. active p t a ⇒ leb (priorityOf m b) (priorityOf m a));
 }
 
--- 30 with fewer than c ones, nothing waits. A tick, B activity.
+-- 30 with fewer than c ones, nothing waits that counts. A tick, B activity.
 unfoldable pub rule30 : Model → Plan → Rule
 rule30 m p = record {
   number = 30;
   rows = m .horizon;
   columns = m .activities;
-  Holds = λ t b. ones (p .word t) < m .cores → ¬ Waiting m p t b;
-  test = λ t b. ltb (ones (p .word t)) (m .cores) ⇒ not (waits m p t b);
+  Holds = λ t b. load m p t < m .cores → ¬ Contends m p t b;
+  test = λ t b. ltb (load m p t) (m .cores) ⇒ not (contends m p t b);
 }
 
--- 31 with exactly c ones, no waiting B has the priority of an active activity with a larger number. A tick.
+-- 31 with exactly c ones, no waiting B that counts has the priority of an active activity with a larger number. A tick.
 unfoldable pub rule31 : Model → Plan → Rule
 rule31 m p = record {
   number = 31;
   rows = m .horizon;
   columns = m .activities;
-  Holds = λ t b. Waiting m p t b → ones (p .word t) ≡ m .cores
+  Holds = λ t b. Contends m p t b → load m p t ≡ m .cores
       → (a : ℕ) → a < m .activities → T (active p t a) → b < a → ¬ (priorityOf m b ≡ priorityOf m a);
-  test = λ t b. waits m p t b ⇒ eqb (ones (p .word t)) (m .cores)
+  test = λ t b. contends m p t b ⇒ eqb (load m p t) (m .cores)
       ⇒ all (m .activities) (λ a. active p t a ⇒ ltb b a ⇒ not (eqb (priorityOf m b) (priorityOf m a)));
 }
 

@@ -4,12 +4,11 @@
 use Prim.Native.Nat.{ℕ, _+_, _≤_, _<_}
 use mathlib.Core.Path.{_≡_}
 use lib.Dec.{T}
-use Rattle.schedule.specs.Bounded.{ones}
 use Rattle.schedule.specs.Records.{Within}
 use Rattle.schedule.specs.Model.{Model, priorityOf, temporally, byData}
 use Rattle.schedule.specs.Timing.{InTime}
 use Rattle.schedule.specs.Plan.{Plan, planTiming, active}
-use Rattle.schedule.specs.Checks.{countOf, efe, Waiting, Window}
+use Rattle.schedule.specs.Checks.{countOf, efe, load, Contends, Window}
 
 -- rules 21 to 29
 pub record KeepsPlain (m : Model) (p : Plan) : Type 0 where
@@ -26,17 +25,17 @@ pub record KeepsPlain (m : Model) (p : Plan) : Type 0 where
   pub by-data : (a b : ℕ) → a < m .activities → b < m .activities → T (byData m b a) → p .end b ≤ p .start a
   -- 27 start ≥ efe
   pub eligible : (a : ℕ) → a < m .activities → efe m p a ≤ p .start a
-  -- 28 at most c ones in the word
-  pub cores : (t : ℕ) → t < m .horizon → ones (p .word t) ≤ m .cores
-  -- 29 with exactly c ones, no waiting activity has a priority above an active one's
-  pub priority : (t b : ℕ) → t < m .horizon → b < m .activities → ones (p .word t) ≡ m .cores → Waiting m p t b
+  -- 28 at most c ones in the word: active widths of no more than c (U7 of 02)
+  pub cores : (t : ℕ) → t < m .horizon → load m p t ≤ m .cores
+  -- 29 with exactly c ones, no waiting activity that counts has a priority above an active one's
+  pub priority : (t b : ℕ) → t < m .horizon → b < m .activities → load m p t ≡ m .cores → Contends m p t b
       → (a : ℕ) → a < m .activities → T (active p t a) → priorityOf m b ≤ priorityOf m a
 
 -- rules 21 to 31
 pub record KeepsStrict (m : Model) (p : Plan) : Type 0 where
   pub plain : KeepsPlain m p
-  -- 30 with fewer than c ones, nothing waits
-  pub idle : (t b : ℕ) → t < m .horizon → b < m .activities → ones (p .word t) < m .cores → ¬ Waiting m p t b
-  -- 31 with exactly c ones, no waiting activity has the priority of an active activity with a larger number
-  pub tie : (t b : ℕ) → t < m .horizon → b < m .activities → Waiting m p t b → ones (p .word t) ≡ m .cores
+  -- 30 with fewer than c ones, nothing waits that counts
+  pub idle : (t b : ℕ) → t < m .horizon → b < m .activities → load m p t < m .cores → ¬ Contends m p t b
+  -- 31 with exactly c ones, no waiting activity that counts has the priority of an active activity with a larger number
+  pub tie : (t b : ℕ) → t < m .horizon → b < m .activities → Contends m p t b → load m p t ≡ m .cores
       → (a : ℕ) → a < m .activities → T (active p t a) → b < a → ¬ (priorityOf m b ≡ priorityOf m a)

@@ -28,4 +28,5 @@ pub mod Deadlines
 pub mod Listing
 pub mod Pages
 pub mod PageForms
+pub mod Gangs
 pub mod Wrapped

@@ -1,12 +1,12 @@
--- "The run, as a plain machine": its state, ready, rank, the first c, and the plan that its run makes.
+-- "The run, as a plain machine": its state, ready, rank, the walk that takes what fits, and the plan that its run makes.
 -- The machine knows a model, a release for each thread and a duration for each activity; periods play no part in it.
 -- Assumes nothing.
 use Prim.Native.Nat.{ℕ, zero, suc, _+_, _-_}
-use mathlib.Core.Bool.{Bool, _&&_, _||_, cond}
-use mathlib.Core.List.{List}
+use mathlib.Core.Bool.{Bool, true, false, _&&_, _||_, cond}
+use mathlib.Core.List.{List, [], _∷_}
 use lib.Dec.{eqb, leb, ltb}
 use lib.ListN.{getD}
-use Rattle.schedule.specs.Bounded.{all, count, table, lowest, bit, wordOf, _⇒_}
+use Rattle.schedule.specs.Bounded.{all, table, lowest, bit, wordOf, member, _⇒_}
 use Rattle.schedule.specs.Model.{Model, priorityOf, temporally, byData}
 
 -- "for each activity the ticks still owed, and its end once nothing is owed"
@@ -39,17 +39,37 @@ unfoldable pub before : Model → ℕ → ℕ → Bool
 before m b a =
     ltb (priorityOf m a) (priorityOf m b) || (eqb (priorityOf m b) (priorityOf m a) && ltb b a)
 
--- a's place in the ranking, from 0: how many of the ready rank before it
-unfoldable pub rank : Model → (ℕ → Bool) → ℕ → ℕ
-rank m rdy a = count (m .activities) (λ b. rdy b && before m b a)
+-- activities in rank order, with one more in its place among them
+unfoldable pub insert : Model → ℕ → List ℕ → List ℕ
+insert m a [] = a ∷ []
+insert m a (b ∷ l) = elim (before m a b) [ true ↦ a ∷ b ∷ l | false ↦ b ∷ insert m a l ]
 
--- "The first c, or all if fewer": a is ready, and its place in the ranking is below c
+-- "Rank the ready": those below n in rank order
+unfoldable pub inRank : Model → (ℕ → Bool) → ℕ → List ℕ
+inRank m rdy zero = []
+inRank m rdy (suc n) = elim (rdy n) [ true ↦ insert m n (inRank m rdy n) | false ↦ inRank m rdy n ]
+
+-- "walks the ready in rank order and takes each whose width still fits" (U7 of 02): what is taken of a list where so many
+-- cores are taken already. The walk goes on past one that does not fit.
+unfoldable pub walk : Model → List ℕ → ℕ → List ℕ
+walk m [] cores-taken = []
+walk m (a ∷ l) cores-taken = elim (leb (cores-taken + m .width a) (m .cores)) [
+  | true ↦ a ∷ walk m l (cores-taken + m .width a)
+  | false ↦ walk m l cores-taken
+]
+
+-- what the run takes of the ready
+unfoldable pub walked : Model → (ℕ → Bool) → List ℕ
+walked m rdy = walk m (inRank m rdy (m .activities)) 0
+
 unfoldable pub selected : Model → (ℕ → Bool) → ℕ → Bool
-selected m rdy a = rdy a && ltb (rank m rdy a) (m .cores)
+selected m rdy a = member a (walked m rdy)
 
 -- "are the word's bits"
 unfoldable pub wordAt : Model → (ℕ → ℕ) → ℕ → State → ℕ
-wordAt m release t s = wordOf (m .activities) (selected m (ready m release t s))
+wordAt m release t s =
+    let them : List ℕ = walked m (ready m release t s) in
+    wordOf (m .activities) (λ a. member a them)
 
 -- "At the beginning t = 0 and each activity owes its chosen duration"
 unfoldable pub initial : Model → (ℕ → ℕ) → State

@@ -1,7 +1,7 @@
--- The model record: its bytes, what they mean, and its form rules: 1 to 7, and 51 to 53 among them.
+-- The model record: its bytes, what they mean, and its form rules: 1 to 7, with 51 to 53 and 57 among them.
 -- Assumes nothing.
 use Prim.Native.Nat.{ℕ, _+_, _-_, _*_, _/_, _%_, _≤_, _<_}
-use mathlib.Core.Bool.{Bool, _&&_, not, cond}
+use mathlib.Core.Bool.{Bool, _&&_, _||_, not, cond}
 use mathlib.Core.List.{List, [], _∷_, _++_}
 use mathlib.Core.Path.{_≡_}
 use lib.Dec.{T, eqb, leb, ltb}
@@ -30,6 +30,7 @@ pub record Model : Type 0 where
   pub delay : ℕ → ℕ
   pub temporal-mask : ℕ → ℕ
   pub data-mask : ℕ → ℕ
+  pub width : ℕ → ℕ
 
 -- "priority is looked up by an activity's thread"
 abbrev pub priorityOf : Model → ℕ → ℕ
@@ -56,13 +57,20 @@ pub record Page : Type 0 where
 abbrev pub threadRow : ℕ → ℕ → ℕ
 threadRow version j = cond (eqb version 1) 10 11 + 10 * j
 
--- The activity rows follow them, of 15 bytes, and from version 2 on of one more, the loop byte.
+-- The activity rows follow them, of 15 bytes; in version 2 of one more, the loop byte; and from version 3 on of two more, the
+-- loop byte and the width.
 abbrev pub activityRow : ℕ → ℕ → ℕ → ℕ
-activityRow version n a = threadRow version n + cond (eqb version 1) (15 * a) (16 * a)
+activityRow version n a =
+    threadRow version n + cond (eqb version 1) (15 * a) (cond (eqb version 2) (16 * a) (17 * a))
 
--- "Length 10 + 10n + 15m", and 11 + 10n + 16m: where one more activity row would begin
+-- "Length 10 + 10n + 15m", 11 + 10n + 16m, and 11 + 10n + 17m: where one more activity row would begin
 abbrev pub modelLength : ℕ → ℕ → ℕ → ℕ
 modelLength version n m = activityRow version n m
+
+-- "Model version 3 is version 2 with a last byte in each activity row, its width 1..8; older models have width 1" (U7 of 02):
+-- the width of the row that begins at a position
+abbrev pub widthAt : List ℕ → ℕ → ℕ
+widthAt s at = cond (eqb (field s 4 1) 1 || eqb (field s 4 1) 2) 1 (field s (at + 16) 1)
 
 -- the page that a record's bytes say
 unfoldable pub page : List ℕ → Page
@@ -86,6 +94,7 @@ page s =
         delay = λ a. field s (activityRow version n a + 5) 2;
         temporal-mask = λ a. field s (activityRow version n a + 7) 4;
         data-mask = λ a. field s (activityRow version n a + 11) 4;
+        width = λ a. widthAt s (activityRow version n a);
       };
       rounds = cond (eqb version 1) 1 (field s 10 1);
       loop = λ a. cond (eqb version 1) noLoop (field s (activityRow version n a + 15) 1);
@@ -121,13 +130,14 @@ unrolled p =
       temporal-mask = below M (λ a.
           withLoop (a / m) m (p .loop (a % m)) (movedMask (a / m) m (one .temporal-mask (a % m))));
       data-mask = below M (λ a. movedMask (a / m) m (one .data-mask (a % m)));
+      width = below M (λ a. one .width (a % m));
     }
 
 -- the model that a record's bytes say
 unfoldable pub model : List ℕ → Model
 model s = unrolled (page s)
 
--- ---- the form rules: 3, 5, 6 and 7 speak of the plain model of one round, and A is a row of the page
+-- ---- the form rules: 3, 5, 6, 7 and 57 speak of the plain model of one round, and A is a row of the page
 
 -- 3: c, n, m or H outside its limits
 unfoldable pub limitsRule : Model → Rule
@@ -213,23 +223,35 @@ loopRule p = record {
   test = λ a _. not (eqb (p .loop a) noLoop) ⇒ ltb (p .loop a) (p .plain .activities);
 }
 
--- the rules of a page's rows by name, and their order: "after 5, 52 .. after 6, 53"
+-- 57, activity row A: "a width of 0 or above c"
+unfoldable pub widthRule : Model → Rule
+widthRule m = record {
+  number = 57;
+  rows = m .activities;
+  columns = 1;
+  Holds = λ a _. Within 1 (m .cores) (m .width a);
+  test = λ a _. within 1 (m .cores) (m .width a);
+}
+
+-- the rules of a page's rows by name, and their order: "after 5, 52 .. after 6, 53 .. 57, after 53"
 abbrev pub rowRule : RowRule → Page → Rule
 rowRule RowRule.Thread p = threadRule (p .plain)
 rowRule RowRule.Period p = periodRule p
 rowRule RowRule.Activity p = activityRule (p .plain)
 rowRule RowRule.Loop p = loopRule p
+rowRule RowRule.Width p = widthRule (p .plain)
 rowRule RowRule.Masks p = maskRule (p .plain)
 
 abbrev pub rowOrder : List RowRule
-rowOrder = RowRule.Thread ∷ RowRule.Period ∷ RowRule.Activity ∷ RowRule.Loop ∷ RowRule.Masks ∷ []
+rowOrder =
+    RowRule.Thread ∷ RowRule.Period ∷ RowRule.Activity ∷ RowRule.Loop ∷ RowRule.Width ∷ RowRule.Masks ∷ []
 
 abbrev pub rowRules : Page → List Rule
 rowRules p = rulesNamed (λ rule. rowRule rule p) rowOrder
 
 -- the newest version of a model
 abbrev pub newestModel : ℕ
-newestModel = 2
+newestModel = 3
 
 -- the rules that name no row: "after 4, 51"
 abbrev pub headRules : List ℕ → List Rule
@@ -260,4 +282,5 @@ pub record Formed (m : Model) : Type 0 where
   pub horizon : Within 1 4096 (m .horizon)
   pub owner : (a : ℕ) → a < m .activities → m .thread a < m .threads
   pub lasting : (a : ℕ) → a < m .activities → 1 ≤ m .least-duration a
+  pub wide : (a : ℕ) → a < m .activities → Within 1 (m .cores) (m .width a)
   pub ordered : Ordered m

@@ -35,6 +35,7 @@ formNumber (FormRefusal.ModelRow RowRule.Thread) = 5
 formNumber (FormRefusal.ModelRow RowRule.Period) = 52
 formNumber (FormRefusal.ModelRow RowRule.Activity) = 6
 formNumber (FormRefusal.ModelRow RowRule.Loop) = 53
+formNumber (FormRefusal.ModelRow RowRule.Width) = 57
 formNumber (FormRefusal.ModelRow RowRule.Masks) = 7
 formNumber FormRefusal.SecondSize = 8
 formNumber FormRefusal.SecondVersion = 9

@@ -8,10 +8,11 @@ use Rattle.schedule.specs.Choice
 use Rattle.schedule.specs.Plan
 use Rattle.schedule.specs.Checks
 
--- rules 1 to 14 and 51 to 53, of the three records
+-- rules 1 to 14, 51 to 53 and 57, of the three records
 unfoldable pub form-rules : Unit {0}
 unfolding Records.lengthRule Records.versionRule Records.formulaRule
-    Model.limitsRule Model.roundsRule Model.threadRule Model.periodRule Model.activityRule Model.loopRule Model.maskRule
+    Model.limitsRule Model.roundsRule Model.threadRule Model.periodRule Model.activityRule Model.loopRule
+    Model.widthRule Model.maskRule
     Choice.choiceCounts Choice.rangeRule Choice.durationRule Plan.planCounts Plan.wordRule
 form-rules = tt
 

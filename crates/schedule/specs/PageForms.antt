@@ -41,9 +41,9 @@ cases =
     -- the page itself, and with i 4, which has other counts than the choice
     says earlier (accepts 7 10 8)
     (says (but 10 (4 ∷ [])) (refuses 10 0 0)
-    -- versions 0 and 3; S with version byte 2 has not that version's length, nor has a record of 10 bytes
+    -- versions 0 and 4; S with version byte 2 has not that version's length, nor has a record of 10 bytes
     (says (but 4 (0 ∷ [])) (refuses 2 0 0)
-    (says (but 4 (3 ∷ [])) (refuses 2 0 0)
+    (says (but 4 (4 ∷ [])) (refuses 2 0 0)
     (says (patch 4 (2 ∷ []) modelS) (refuses 4 0 0)
     (says (0 ∷ 0 ∷ 0 ∷ 10 ∷ 2 ∷ 1 ∷ 1 ∷ 1 ∷ 0 ∷ 8 ∷ []) (refuses 4 0 0)
     -- 51: i 0 and 5, and 4 with one row each; i times n is 9, and 8 with `four-times` of MorePages; i times m is 33, and 32

@@ -1,5 +1,6 @@
 -- What a page means, as U4 of 02 says it, with nothing that computes: a model that is a page's plain model unrolled, thread by
--- thread and mask by mask. crate demands, Rounds, shows it of the model that a record's bytes say (PagesUnroll).
+-- thread and mask by mask; and a width is the same in every round (U7 of 02). crate demands, Rounds, shows it of the model that
+-- a record's bytes say (PagesUnroll).
 -- Assumes nothing.
 use Prim.Native.Nat.{ℕ, suc, _+_, _*_, _<_}
 use mathlib.Core.Logic.{_⊎_, _↔_}
@@ -21,7 +22,7 @@ pub record ThreadMoved (p : Page) (m : Model) (k j x : ℕ) : Type 0 where
 
 -- "and activity a is k times m + a. Masks move likewise. With loop byte q, activity q of round k is a temporal predecessor of a
 -- in round k + 1": and there is no other predecessor, whatever row b and round l are looked at. Row x of the model's
--- activities is that of row a in round k. Bits at or above the counts, and rows past them, are no activities.
+-- activities is that of row a in round k, with its width. Bits at or above the counts, and rows past them, are no activities.
 pub record ActivityMoved (p : Page) (m : Model) (k a x : ℕ) : Type 0 where
   pub thread : m .thread x ≡ k * p .plain .threads + p .plain .thread a
   pub least-duration : m .least-duration x ≡ p .plain .least-duration a
@@ -32,6 +33,7 @@ pub record ActivityMoved (p : Page) (m : Model) (k a x : ℕ) : Type 0 where
       ↔ (((l ≡ k) × T (temporally (p .plain) b a)) ⊎ ((suc l ≡ k) × (p .loop a ≡ b)))
   pub by-data : (l b : ℕ) → l < p .rounds → b < p .plain .activities
       → T (byData m (l * p .plain .activities + b) x) ↔ ((l ≡ k) × T (byData (p .plain) b a))
+  pub width : m .width x ≡ p .plain .width a
 
 -- "It means the plain model unrolled"
 pub record Unrolls (p : Page) (m : Model) : Type 0 where

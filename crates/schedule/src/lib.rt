@@ -16,11 +16,13 @@ pub enum RowRule {
     Activity,
     // 53 "activity A whose q is m or more but not 255" (02)
     Loop,
+    // 57 "for a width of 0 or above c, A the activity" (02)
+    Width,
     // 7 "row A: a bit at or above its own number in either mask"
     Masks,
 }
 
-// Refusals 1 to 14 and 51 to 53, "From the input", in the order in which they are tried.
+// Refusals 1 to 14, 51 to 53 and 57, "From the input", in the order in which they are tried.
 pub enum FormRefusal {
     // 1 "model under 10 bytes, or its length differs from the bytes given"
     ModelSize,
@@ -32,7 +34,7 @@ pub enum FormRefusal {
     ModelFormula,
     // 51 "i outside 1..4, i times n above 8 or i times m above 32" (02)
     Rounds,
-    // 5, 52, 6, 53 and 7
+    // 5, 52, 6, 53, 57 and 7
     ModelRow(RowRule),
     // 8 "second record under 7 bytes (choice) or 9 (plan), or length differs from the bytes given"
     SecondSize,
