@@ -4,22 +4,22 @@
 use Prim.Native.Nat.{ℕ, zero, suc, _+_, _-_, _≤_, _<_}
 use native.Mathlib.Decide.{decLt}
 use native.Mathlib.Omega.{arith}
-use mathlib.Core.Bool.{Bool}
-use mathlib.Core.Logic.{inl, inr}
+use mathlib.Core.Bool.{Bool, _&&_}
 use mathlib.Core.Path.{_≡_, sym, subst, ap, _∙_}
 use lib.Dec.{T}
-use Rattle.schedule.specs.Bounded.{count, bit, ones, lowest}
+use Rattle.schedule.specs.Bounded.{bit, lowest}
 use Rattle.schedule.specs.Records.{Within}
-use Rattle.schedule.specs.Model.{Model, priorityOf, temporally, byData, Ordered}
+use Rattle.schedule.specs.Model.{Model, temporally, byData, Ordered}
 use Rattle.schedule.specs.Timing.{InTime}
 use Rattle.schedule.specs.Plan.{Plan, planTiming, active}
-use Rattle.schedule.specs.Machine.{owes, endOf, ready, selected, machineWord, machineStart, machineEnd, machineOwes}
-use Rattle.schedule.specs.Checks.{countOf, efe, Waiting, Window}
+use Rattle.schedule.specs.Machine.{owes, endOf, ready, before, selected, machineWord, machineStart, machineEnd, machineOwes}
+use Rattle.schedule.specs.Checks.{countOf, efe, Waiting, coresOf, load, Contends, Window}
 use Rattle.schedule.specs.Keeps.{KeepsStrict}
 use Rattle.laws.proofs.Counting.{count-ext, count-stops}
-use Rattle.laws.proofs.Selection.{Before, selected-few, selected-all, selected-first}
+use Rattle.laws.proofs.Cores.{cores-ext}
+use Rattle.laws.proofs.Selection.{selected-fits, selected-few}
 use Rattle.laws.proofs.Lowest.{lowest-is, lowest-found}
-use Rattle.laws.proofs.MachineLaws.{Ready, ready-sound, at, runs, runs-selected, runs-ready, ones-runs, runs-duration}
+use Rattle.laws.proofs.MachineLaws.{Ready, ready-sound, at, runs, runs-selected, runs-ready, runs-duration}
 use Rattle.laws.proofs.MachineLaws.{owed-done, stays, Ended, ended}
 use Rattle.laws.proofs.EfeLaws.{efe-release, efe-bound}
 use Rattle.laws.proofs.Windows.{window-span}
@@ -134,15 +134,6 @@ module _ (m : Model) (release duration : ℕ → ℕ) (p : Plan) (made : Made m 
   eligible : (a : ℕ) → a < m .activities → efe m p a ≤ p .start a
   eligible a l = eligible-below (suc a) a (omega arith) l
 
-  -- a tick's ones are its selected
-  ones-selected : (t : ℕ) → t < m .horizon
-      → ones (p .word t) ≡ count (m .activities) (selected m (ready m release t (at m release duration t)))
-  ones-selected t h =
-      ap ones (made .words t h)
-      ∙ ones-runs m release duration few t
-      ∙ count-ext (m .activities) (λ a. runs m release duration t a) (selected m (ready m release t (at m release duration t)))
-      (λ a l. runs-selected m release duration t a l)
-
   active-selected : (t a : ℕ) → t < m .horizon → a < m .activities
       → active p t a ≡ selected m (ready m release t (at m release duration t)) a
   active-selected t a h l = same-bit t a h ∙ runs-selected m release duration t a l
@@ -185,20 +176,28 @@ module _ (m : Model) (release duration : ℕ → ℕ) (p : Plan) (made : Made m 
         (z, omega (arith, e, end-then t b lb (omega arith) z));
   }
 
-  -- no waiting activity ranks before an active one
-  in-order : (t b a : ℕ) → t < m .horizon → b < m .activities → a < m .activities → Waiting m p t b → T (active p t a)
-      → ¬ Before m b a
-  in-order t b a h lb la w x =
-      selected-first m (ready m release t (at m release duration t)) b a lb
-      (ready-sound m release t (at m release duration t) b .1 (waits-ready t b h lb w))
-      (λ y. w .clear (subst T (sym (active-selected t b h lb)) y))
-      (subst T (active-selected t a h la) x)
+  -- a tick's active take as many cores as its selected
+  cores-selected : (t : ℕ) → t < m .horizon → load m p t ≡ coresOf m (selected m (ready m release t (at m release duration t)))
+  cores-selected t h = cores-ext m _ _ (λ a l. active-selected t a h l)
+
+  -- nothing contends: what waits and fits has been selected
+  none-contends : (t b : ℕ) → t < m .horizon → b < m .activities → ¬ Contends m p t b
+  none-contends t b h l c =
+      c .waiting .clear (subst T (sym (active-selected t b h l))
+      (selected-fits m (ready m release t (at m release duration t)) .is-active b l
+      (ready-sound m release t (at m release duration t) b .1 (waits-ready t b h l (c .waiting)))
+      (omega (
+        arith,
+        c .fits,
+        cores-ext m (λ a. active p t a && before m a b)
+            (λ a. selected m (ready m release t (at m release duration t)) a && before m a b)
+            (λ a la. ap (λ (x : Bool). x && before m a b) (active-selected t a h la)),
+      ))))
 
   -- rules 21 to 31, given 22 and 23
   pub keeps : ((a : ℕ) → a < m .activities → Within (m .least-duration a) (m .most-duration a) (duration a))
       → ((a : ℕ) → a < m .activities → InTime m (planTiming p) (p .end) a)
       → KeepsStrict m p
-  unfolding Before
   keeps range deadline = record {
     plain = record {
       window = window;
@@ -207,16 +206,9 @@ module _ (m : Model) (release duration : ℕ → ℕ) (p : Plan) (made : Made m 
       temporal = temporal;
       by-data = by-data;
       eligible = eligible;
-      cores = λ t h. omega (arith, ones-selected t h, selected-few m (ready m release t (at m release duration t)));
-      priority = λ t b h lb _ w a la x.
-          elim (decLt (priorityOf m a) (priorityOf m b)) [
-            | yes y ↦ absurd (in-order t b a h lb la w x (inl y))
-            | no y ↦ omega arith
-          ];
+      cores = λ t h. omega (arith, cores-selected t h, selected-few m (ready m release t (at m release duration t)));
+      priority = λ t b h lb _ c. absurd (none-contends t b h lb c);
     };
-    idle = λ t b h lb o w.
-        w .clear (subst T (sym (active-selected t b h lb))
-        (selected-all m (ready m release t (at m release duration t)) (omega (arith, ones-selected t h)) b lb
-        (ready-sound m release t (at m release duration t) b .1 (waits-ready t b h lb w))));
-    tie = λ t b h lb w _ a la x less e. in-order t b a h lb la w x (inr (e, less));
+    idle = λ t b h lb _ c. none-contends t b h lb c;
+    tie = λ t b h lb c. absurd (none-contends t b h lb c);
   }

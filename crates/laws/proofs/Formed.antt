@@ -11,7 +11,7 @@ use Rattle.schedule.specs.Fields.{Bytes}
 use Rattle.schedule.specs.Rule.{firstBreak, AllHold}
 use Rattle.schedule.specs.Records.{Within}
 use Rattle.schedule.specs.Model.{Model, page, unrolled, model, modelForm, Formed}
-use Rattle.schedule.specs.Model.{limitsRule, activityRule, maskRule}
+use Rattle.schedule.specs.Model.{limitsRule, activityRule, widthRule, maskRule}
 use Rattle.schedule.specs.Choice.{Choice, choice, choiceThreadRow, choiceForm}
 use Rattle.schedule.specs.Answers.{runChecks}
 use Rattle.schedule.specs.Numbers.{formNumber}
@@ -19,18 +19,19 @@ use Rattle.schedule.specs.Opened.{form-rules}
 use Rattle.laws.proofs.FieldLaws.{field-lt}
 use Rattle.laws.proofs.FirstBreak.{says, none-iff, hold-append}
 use Rattle.laws.proofs.Sound.{runChecks-sound}
-use Rattle.laws.proofs.Unrolled.{page-says, limits-kept, owners-kept, masks-kept}
+use Rattle.laws.proofs.Unrolled.{page-says, limits-kept, owners-kept, widths-kept, masks-kept}
 
--- rules 3, 6 and 7 of a plain model
+-- rules 3, 6, 57 and 7 of a plain model
 pub formed : (m : Model) → limitsRule m .Holds 0 0 → ((a : ℕ) → a < m .activities → activityRule m .Holds a 0)
-    → ((a : ℕ) → a < m .activities → maskRule m .Holds a 0) → Formed m
-unfolding limitsRule activityRule maskRule
-formed m limits rows masks = record {
+    → ((a : ℕ) → a < m .activities → widthRule m .Holds a 0) → ((a : ℕ) → a < m .activities → maskRule m .Holds a 0) → Formed m
+unfolding limitsRule activityRule widthRule maskRule
+formed m limits rows widths masks = record {
   threads = limits .0 .1;
   activities = limits .1 .0;
   horizon = limits .1 .1;
   owner = λ a l. rows a l .0 .0;
   lasting = λ a l. rows a l .0 .1;
+  wide = widths;
   ordered = record {
     temporal = λ a b la lb x. elim (decLt b a) [
       | yes y ↦ y
@@ -48,7 +49,8 @@ pub model-says : (s : List ℕ) → AllHold (modelForm s) → Formed (model s)
 unfolding model
 model-says s h =
     let says = page-says s h in
-    formed (unrolled (page s)) (limits-kept (page s) says) (owners-kept (page s) says) (masks-kept (page s) says)
+    formed (unrolled (page s)) (limits-kept (page s) says) (owners-kept (page s) says) (widths-kept (page s) says)
+    (masks-kept (page s) says)
 
 -- where the input of a run passes, its model meets its form rules
 pub input-formed : (s q : List ℕ) → AllHold (runChecks s q) → Formed (model s)

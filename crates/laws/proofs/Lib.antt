@@ -18,6 +18,8 @@ pub mod LatenessLaws
 pub mod Sound
 pub mod RuleNumbers
 pub mod VerdictLaws
+pub mod Rank
+pub mod Cores
 pub mod Selection
 pub mod MachineLaws
 pub mod MachinePlan

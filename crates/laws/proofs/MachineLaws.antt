@@ -6,19 +6,20 @@ use native.Mathlib.Numerals.{add-one}
 use native.Mathlib.Omega.{arith}
 use mathlib.Core.Bool.{Bool, _&&_, cond}
 use mathlib.Core.List.{List, [], _∷_, _++_}
-use mathlib.Core.Logic.{_⊎_, ⊎-elim, _↔_}
+use mathlib.Core.Logic.{⊎-elim, _↔_}
 use mathlib.Core.Path.{_≡_, refl, sym, subst, ap, ap₂, _∙_}
 use lib.Dec.{T, eqb, leb, ltb}
 use lib.ListN.{length, getD, length-append, List·getD-append}
 use lib.Seq.{getD-at}
 use borrow.Author.Tests.{eq-eqb}
-use Rattle.schedule.specs.Bounded.{count, table, bit, ones}
+use Rattle.schedule.specs.Bounded.{count, table, bit}
 use Rattle.schedule.specs.Model.{Model, temporally, byData}
 use Rattle.schedule.specs.Machine.{State, owes, endOf, endedBy, ready, selected, wordAt, initial, step, stateAt}
 use Rattle.schedule.specs.Machine.{machineWord, machineOwes}
 use Rattle.laws.proofs.Tests.{tests, below-suc}
 use Rattle.laws.proofs.Counting.{decT, T-true, T-false, implies-same, weight, one-if, zero-if, count-suc, count-zero, all-ext}
-use Rattle.laws.proofs.Words.{bit-wordOf, wordOf-lt, bit-high, ones-count}
+use Rattle.laws.proofs.Words.{bit-wordOf, wordOf-lt}
+use Rattle.laws.proofs.Selection.{selected-fits}
 
 pub length-table : {A : Type 0} (n : ℕ) (f : ℕ → A) → length (table n f) ≡ n
 unfolding table
@@ -118,25 +119,17 @@ module _ (m : Model) (release duration : ℕ → ℕ) where
 
   -- the active are the selected
   pub runs-selected : (t a : ℕ) → a < m .activities → runs t a ≡ selected m (ready m release t (at t)) a
-  unfolding machineWord wordAt
+  unfolding machineWord wordAt selected
   runs-selected t a l = bit-wordOf (m .activities) (selected m (ready m release t (at t))) a l
 
   pub word-lt : (t : ℕ) → machineWord m release duration t < 2 ^ m .activities
-  unfolding machineWord wordAt
+  unfolding machineWord wordAt selected
   word-lt t = wordOf-lt (m .activities) (selected m (ready m release t (at t)))
 
-  -- a tick's ones are the activities that run
-  pub ones-runs : m .activities ≤ 32 → (t : ℕ) → ones (machineWord m release duration t) ≡ count (m .activities) (runs t)
-  ones-runs few t =
-      let w : ℕ = machineWord m release duration t in
-      ones-count w (m .activities) few (λ b _ l. bit-high w (m .activities) b (word-lt t) l)
-
   pub runs-ready : (t a : ℕ) → a < m .activities → T (runs t a) → Ready m release t (at t) a
-  unfolding selected
   runs-ready t a l x =
-      let y : T (selected m (ready m release t (at t)) a) = subst T (runs-selected t a l) x in
-      let z = simp tests at y in
-      ready-sound m release t (at t) a .0 (z .0)
+      ready-sound m release t (at t) a .0
+      (selected-fits m (ready m release t (at t)) .is-ready a l (subst T (runs-selected t a l) x))
 
   -- what is owed and what is done make the duration
   pub owed-done : (t a : ℕ) → a < m .activities → owes (at t) a + count t (λ u. runs u a) ≡ duration a

@@ -81,6 +81,7 @@ form-undone (FormRefusal.ModelRow RowRule.Thread) at = refl
 form-undone (FormRefusal.ModelRow RowRule.Period) at = refl
 form-undone (FormRefusal.ModelRow RowRule.Activity) at = refl
 form-undone (FormRefusal.ModelRow RowRule.Loop) at = refl
+form-undone (FormRefusal.ModelRow RowRule.Width) at = refl
 form-undone (FormRefusal.ModelRow RowRule.Masks) at = refl
 form-undone FormRefusal.SecondSize at = refl
 form-undone FormRefusal.SecondVersion at = refl

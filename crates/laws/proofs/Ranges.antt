@@ -1,11 +1,11 @@
 -- The fields of the records fit their bytes.
 -- Assumes nothing.
-use Prim.Native.Nat.{ℕ, _<_}
+use Prim.Native.Nat.{ℕ, _<_, _^_}
 use native.Mathlib.Omega.{arith}
-use mathlib.Core.Bool.{Bool, true, false, cond}
+use mathlib.Core.Bool.{Bool, true, false, _||_, cond}
 use mathlib.Core.List.{List}
-use lib.Dec.{ltb}
-use Rattle.schedule.specs.Fields.{Bytes}
+use lib.Dec.{eqb, ltb}
+use Rattle.schedule.specs.Fields.{field, Bytes}
 use Rattle.schedule.specs.Rounds.{below}
 use Rattle.schedule.specs.Model.{page, unrolled, model}
 use Rattle.schedule.specs.Choice.{choice}
@@ -34,6 +34,14 @@ module _ (s : List ℕ) (h : Bytes s) where
   unfolding model unrolled page
   delay-lt = below-lt _ 65536 _ (omega arith) (λ x. field-lt s h _ 2)
 
+  pub width-lt : (a : ℕ) → model s .width a < 256
+  unfolding model unrolled page
+  width-lt = below-lt _ 256 _ (omega arith) (λ x. one (eqb (field s 4 1) 1 || eqb (field s 4 1) 2) _)
+    where
+      one : (t : Bool) (at : ℕ) → cond t 1 (field s at 1) < 256
+      one true at = omega arith
+      one false at = field-lt s h at 1
+
 -- of a choice
 module _ (q : List ℕ) (h : Bytes q) where
   pub chosen-release-lt : (j : ℕ) → choice q .release j < 65536
@@ -57,3 +65,7 @@ module _ (r : List ℕ) (h : Bytes r) where
   pub end-lt : (a : ℕ) → plan r .end a < 65536
   unfolding plan
   end-lt a = field-lt r h _ 2
+
+  pub word-lt : (t : ℕ) → plan r .word t < 2 ^ 32
+  unfolding plan
+  word-lt t = field-lt r h _ 4

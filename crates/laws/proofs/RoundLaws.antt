@@ -11,10 +11,10 @@ use lib.Arith.{digits-lt, digits-div, digits-mod}
 use lib.Dec.{eqb, leb}
 use lib.Pow.{pow-add, shl-shr, shr-shr, low}
 use borrow.Author.Tests.{lt-ltb, le-leb, lt-leb, eq-eqb, ne-eqb}
-use Rattle.schedule.specs.Bounded.{bit, withBit}
+use Rattle.schedule.specs.Bounded.{bit}
 use Rattle.schedule.specs.Rounds.{noLoop, inAll, numberIn, movedRelease, movedMask, withLoop, below}
 use Rattle.laws.proofs.Words.{bit-low}
-use Rattle.laws.proofs.WordLaws.{bit-or, bit-pow, with-or}
+use Rattle.laws.proofs.WordLaws.{bit-with}
 
 -- ---- numbers among all rounds
 
@@ -55,12 +55,6 @@ pub mask-first : (m mask : ℕ) → mask < 2 ^ 32 → movedMask 0 m mask ≡ mas
 mask-first m mask fits = rw (zero-mul m) (ap (λ (x : ℕ). x % 2 ^ 32) (mul-one mask) ∙ mod-eq-of-lt fits)
 
 -- ---- masks
-
-bit-with : (w b x : ℕ) → b < 32 → bit (withBit w b) x ≡ (bit w x || eqb x b)
-bit-with w b x h =
-    ap (λ (v : ℕ). bit v x) (with-or w b h)
-    ∙ bit-or w (2 ^ b) x
-    ∙ ap (λ (t : Bool). bit w x || t) (bit-pow b x)
 
 -- a word times a power of 2 has its bits so much higher
 shifted-up : (w d b : ℕ) → bit (w * 2 ^ d) (d + b) ≡ bit w b

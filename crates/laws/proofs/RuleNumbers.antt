@@ -57,7 +57,7 @@ OfForm k = T (ltb k 21 || ltb 43 k)
 
 pub model-numbers : (s : List ℕ) → AllNumbers OfForm (modelForm s)
 unfolding modelForm form-rules
-model-numbers s = tt & tt & tt & tt & tt & tt & tt & tt & tt & tt & tt
+model-numbers s = tt & tt & tt & tt & tt & tt & tt & tt & tt & tt & tt & tt
 
 pub choice-numbers : (m : Model) (q : List ℕ) → AllNumbers OfForm (choiceForm m q)
 unfolding choiceForm form-rules

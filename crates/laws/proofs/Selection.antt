@@ -1,226 +1,349 @@
--- "Rank the ready by priority, highest first, then by lower activity number. The first c": whether an activity is selected
--- depends only on the ready that rank before it and on itself; the choice of a tick is the only one that keeps rules 28 to 31
--- there, and it keeps them.
+-- "The run walks the ready in rank order and takes each whose width still fits" (U7 of 02): what it takes is what fits beside
+-- the taken that rank before it. Such a choice is the only one, depends on the ready that rank before an activity and on itself
+-- alone, and is the only one that keeps rules 28 to 31 at its tick.
 -- Assumes nothing.
-use Prim.Native.Nat.{ℕ, zero, suc, _≤_, _<_}
-use native.Mathlib.Decide.{decLt, ℕ-discrete}
-use native.Mathlib.Nat.{le-of-eq, not-suc-le-zero}
+use Prim.Native.Nat.{ℕ, zero, suc, _+_, _≤_, _<_}
+use native.Mathlib.Decide.{decLt}
 use native.Mathlib.Omega.{arith}
-use mathlib.Core.Bool.{Bool, _&&_}
+use mathlib.Core.Bool.{Bool, true, false, _&&_, and-true}
+use mathlib.Core.List.{List, [], _∷_}
 use mathlib.Core.Logic.{_⊎_, inl, inr, ⊎-elim}
-use mathlib.Core.Path.{_≡_, sym, subst, ap₂, _∙_}
-use lib.Dec.{T, eqb, ltb, ltb→lt, lt→ltb}
-use Rattle.schedule.specs.Bounded.{count}
-use Rattle.schedule.specs.Model.{Model, priorityOf}
-use Rattle.schedule.specs.Machine.{before, rank, selected}
-use Rattle.laws.proofs.Tests.{tests, T-and, T-or, below-suc}
-use Rattle.laws.proofs.Counting.{decT, T-ext, and-same, count-ext, count-mono, count-less, count-union, count-single, count-none}
+use mathlib.Core.Path.{_≡_, refl, sym, subst, ap, _∙_}
+use lib.Dec.{T, leb, eqb}
+use Rattle.schedule.specs.Bounded.{member}
+use Rattle.schedule.specs.Model.{Model}
+use Rattle.schedule.specs.Machine.{before, insert, inRank, walk, walked, selected}
+use Rattle.schedule.specs.Checks.{coresOf, ahead}
+use Rattle.laws.proofs.Tests.{T-and, T-or, T-eqb, T-leb, below-suc}
+use Rattle.laws.proofs.Counting.{decT, T-ext, and-same}
+use Rattle.laws.proofs.Rank.{Before, before-says, before-is, before-trans, before-irreflexive, before-total}
+use Rattle.laws.proofs.Rank.{place, place-less}
+use Rattle.laws.proofs.Cores.{cost, cores-none, cores-cons, cores-ext, ahead-room, not-ahead}
 
--- b ranks before a, as a statement
-unfoldable pub Before : Model → ℕ → ℕ → Type 0
-Before m b a = (priorityOf m a < priorityOf m b) ⊎ ((priorityOf m b ≡ priorityOf m a) × (b < a))
+-- ---- a list in rank order
 
-above : Model → ℕ → ℕ → Bool
-above m b a = ltb (priorityOf m a) (priorityOf m b)
+-- each ranks before all behind it
+Sorted : Model → List ℕ → Type 0
+Sorted m [] = Unit
+Sorted m (a ∷ l) = ((b : ℕ) → T (member b l) → Before m a b) × Sorted m l
 
-level : Model → ℕ → ℕ → Bool
-level m b a = eqb (priorityOf m b) (priorityOf m a) && ltb b a
+-- what stands in a list with one more is that one, or stood there
+said : (b a : ℕ) (l : List ℕ) → T (member b (a ∷ l)) → (b ≡ a) ⊎ T (member b l)
+unfolding member
+said b a l t = ⊎-elim (λ x. inl (T-eqb b a .0 x)) (λ x. inr x) (T-or (eqb b a) (member b l) .0 t)
 
-pub before-says : (m : Model) (b a : ℕ) → T (before m b a) → Before m b a
-unfolding before Before above level
-before-says m b a t =
-    ⊎-elim (λ x. inl (simp tests at x)) (λ x. inr (simp tests at x)) (T-or (above m b a) (level m b a) .0 t)
+here : (b a : ℕ) (l : List ℕ) → b ≡ a → T (member b (a ∷ l))
+unfolding member
+here b a l e = T-or (eqb b a) (member b l) .1 (inl (T-eqb b a .1 e))
 
-pub before-is : (m : Model) (b a : ℕ) → Before m b a → T (before m b a)
-unfolding before Before above level
-before-is m b a h =
-    T-or (above m b a) (level m b a) .1 (⊎-elim (λ x. inl (simp tests x)) (λ x. inr (simp tests x)) h)
+there : (b a : ℕ) (l : List ℕ) → T (member b l) → T (member b (a ∷ l))
+unfolding member
+there b a l t = T-or (eqb b a) (member b l) .1 (inr t)
 
-before-trans : (m : Model) (a b c : ℕ) → Before m a b → Before m b c → Before m a c
-unfolding Before
-before-trans m a b c (inl x) (inl y) = inl (omega arith)
-before-trans m a b c (inl x) (inr y) = inl (omega arith)
-before-trans m a b c (inr x) (inl y) = inl (omega arith)
-before-trans m a b c (inr x) (inr y) = inr (omega arith, omega arith)
+module _ (m : Model) where
+  abbrev placed : ℕ → ℕ → List ℕ → Bool → List ℕ
+  placed a b l t = elim t [ true ↦ a ∷ b ∷ l | false ↦ b ∷ insert m a l ]
 
-before-irreflexive : (m : Model) (a : ℕ) → ¬ Before m a a
-unfolding Before
-before-irreflexive m a (inl x) = omega arith
-before-irreflexive m a (inr x) = omega arith
+  insert-says : (b a : ℕ) (l : List ℕ) → T (member b (insert m a l)) → (b ≡ a) ⊎ T (member b l)
+  unfolding insert
+  insert-says b a [] t = said b a [] t
+  insert-says b a (c ∷ l) t = one (insert-says b a l) (before m a c) t
+    where
+      one : (T (member b (insert m a l)) → (b ≡ a) ⊎ T (member b l))
+          → (x : Bool) → T (member b (placed a c l x)) → (b ≡ a) ⊎ T (member b (c ∷ l))
+      one ih true t = said b a (c ∷ l) t
+      one ih false t =
+          ⊎-elim (λ e. inr (here b c l e)) (λ t. ⊎-elim (λ e. inl e) (λ t. inr (there b c l t)) (ih t))
+          (said b c (insert m a l) t)
 
--- two different activities: one ranks before the other
-before-total : (m : Model) (a b : ℕ) → ¬ (a ≡ b) → Before m a b ⊎ Before m b a
-unfolding Before
-before-total m a b d =
-    elim (decLt (priorityOf m b) (priorityOf m a)) [
-      | yes x ↦ inl (inl x)
-      | no x ↦ elim (decLt (priorityOf m a) (priorityOf m b)) [
-        | yes y ↦ inr (inl y)
-        | no y ↦ elim (decLt a b) [
-          | yes z ↦ inl (inr (omega arith, z))
-          | no z ↦ inr (inr (omega arith, omega arith))
-        ]
-      ]
-    ]
+  insert-has : (b a : ℕ) (l : List ℕ) → (b ≡ a) ⊎ T (member b l) → T (member b (insert m a l))
+  unfolding insert
+  insert-has b a [] h = ⊎-elim (λ e. here b a [] e) (λ t. there b a [] t) h
+  insert-has b a (c ∷ l) h = one (insert-has b a l) (before m a c)
+    where
+      one : ((b ≡ a) ⊎ T (member b l) → T (member b (insert m a l))) → (x : Bool) → T (member b (placed a c l x))
+      one ih true = ⊎-elim (λ e. here b a (c ∷ l) e) (λ t. there b a (c ∷ l) t) h
+      one ih false =
+          ⊎-elim (λ e. there b c (insert m a l) (ih (inl e)))
+          (λ t. ⊎-elim (λ e. here b c (insert m a l) e) (λ t. there b c (insert m a l) (ih (inr t))) (said b c l t))
+          h
+
+  insert-sorted : (a : ℕ) (l : List ℕ) → (¬ T (member a l)) → Sorted m l → Sorted m (insert m a l)
+  unfolding insert Sorted member
+  insert-sorted a [] new s = (λ b t. absurd t, tt)
+  insert-sorted a (c ∷ l) new s =
+      one (insert-sorted a l (λ t. new (there a c l t)) (s .1)) (before m a c) (λ t. before-says m a c t) (λ f h. f (before-is m a c h))
+    where
+      one : Sorted m (insert m a l) → (x : Bool) → (T x → Before m a c) → ((¬ T x) → ¬ Before m a c) → Sorted m (placed a c l x)
+      one ih true is-before _ = (
+        λ b t. ⊎-elim (λ e. subst (λ i. Before m a i) (sym e) (is-before tt))
+            (λ t. before-trans m a c b (is-before tt) (s .0 b t)) (said b c l t),
+        s,
+      )
+      one ih false _ not-before =
+          (λ b t. ⊎-elim (λ e. subst (λ i. Before m c i) (sym e) behind) (λ t. s .0 b t) (insert-says b a l t), ih)
+        where
+          behind : Before m c a
+          behind = ⊎-elim (λ h. h) (λ h. absurd (not-before (λ x. x) h)) (before-total m c a (λ e. new (here a c l (sym e))))
+
+  -- "Rank the ready": the list has the ready, in rank order
+  module _ (rdy : ℕ → Bool) where
+    abbrev joined : ℕ → Bool → List ℕ
+    joined n t = elim t [ true ↦ insert m n (inRank m rdy n) | false ↦ inRank m rdy n ]
+
+    ranked-says : (n a : ℕ) → T (member a (inRank m rdy n)) → (a < n) × T (rdy a)
+    unfolding inRank member
+    ranked-says zero a t = absurd t
+    ranked-says (suc n) a t = one (ranked-says n a) (rdy n) (λ x. x) t
+      where
+        one : (T (member a (inRank m rdy n)) → (a < n) × T (rdy a))
+            → (x : Bool) → (T x → T (rdy n)) → T (member a (joined n x)) → (a < suc n) × T (rdy a)
+        one ih true is t =
+            ⊎-elim (λ e. (omega arith, subst (λ i. T (rdy i)) (sym e) (is tt)))
+            (λ t. let h = ih t in (omega arith, h .1))
+            (insert-says a n (inRank m rdy n) t)
+        one ih false is t = let h = ih t in (omega arith, h .1)
+
+    ranked-has : (n a : ℕ) → a < n → T (rdy a) → T (member a (inRank m rdy n))
+    unfolding inRank
+    ranked-has zero a l r = absurd (omega arith)
+    ranked-has (suc n) a l r = one (λ h. ranked-has n a h r) (rdy n) (λ f e. f (subst (λ i. T (rdy i)) e r)) (below-suc a n l)
+      where
+        one : (a < n → T (member a (inRank m rdy n)))
+            → (x : Bool) → ((¬ T x) → ¬ (a ≡ n)) → (a < n) ⊎ (a ≡ n) → T (member a (joined n x))
+        one ih true is (inl h) = insert-has a n (inRank m rdy n) (inr (ih h))
+        one ih true is (inr e) = insert-has a n (inRank m rdy n) (inl e)
+        one ih false is (inl h) = ih h
+        one ih false is (inr e) = absurd (is (λ x. x) e)
+
+    ranked-sorted : (n : ℕ) → Sorted m (inRank m rdy n)
+    unfolding inRank Sorted
+    ranked-sorted zero = tt
+    ranked-sorted (suc n) = one (ranked-sorted n) (rdy n)
+      where
+        one : Sorted m (inRank m rdy n) → (x : Bool) → Sorted m (joined n x)
+        one ih true = insert-sorted n (inRank m rdy n) (λ t. let h = ranked-says n n t in omega (arith, h .0)) ih
+        one ih false = ih
+
+  -- ---- the walk
+
+  abbrev gone-on : ℕ → List ℕ → ℕ → Bool → List ℕ
+  gone-on a l used t = elim t [ true ↦ a ∷ walk m l (used + m .width a) | false ↦ walk m l used ]
+
+  -- it takes what stands in the list
+  walk-says : (l : List ℕ) (used b : ℕ) → T (member b (walk m l used)) → T (member b l)
+  unfolding walk
+  walk-says [] used b t = t
+  walk-says (a ∷ l) used b t = one (λ u. walk-says l u b) (leb (used + m .width a) (m .cores)) t
+    where
+      one : ((u : ℕ) → T (member b (walk m l u)) → T (member b l))
+          → (x : Bool) → T (member b (gone-on a l used x)) → T (member b (a ∷ l))
+      one ih true t =
+          ⊎-elim (λ e. here b a l e) (λ t. there b a l (ih (used + m .width a) t)) (said b a (walk m l (used + m .width a)) t)
+      one ih false t = there b a l (ih used t)
+
+  -- In a list of activities in rank order an activity is taken exactly where it fits beside those that are taken and rank
+  -- before it.
+  abbrev Beside : List ℕ → ℕ → ℕ → Type 0
+  Beside w used a = used + (m .width a + ahead m (λ b. member b w) a) ≤ m .cores
+
+  In : List ℕ → Type 0
+  In l = (b : ℕ) → T (member b l) → b < m .activities
+
+  -- the first of a list in rank order, and what is taken of those behind it where it is taken itself
+  module _ (a : ℕ) (l : List ℕ) (used : ℕ) (s : Sorted m (a ∷ l)) (within : In (a ∷ l)) where
+    abbrev onward : List ℕ
+    onward = walk m l (used + m .width a)
+
+    fewer : In l
+    unfolding In
+    fewer b t = within b (there b a l t)
+
+    known : a < m .activities
+    unfolding In
+    known = within a (here a a l refl)
+
+    rest : Sorted m l
+    unfolding Sorted
+    rest = s .1
+
+    first : (b : ℕ) → T (member b onward) → Before m a b
+    unfolding Sorted
+    first b t = s .0 b (walk-says l (used + m .width a) b t)
+
+    new : ¬ T (member a onward)
+    new t = before-irreflexive m a (first a t)
+
+    -- nothing ranks before it
+    ahead-first : ahead m (λ b. member b (a ∷ onward)) a ≡ 0
+    ahead-first =
+        cores-none m (λ b. member b (a ∷ onward) && before m b a) (λ b _ t.
+        let both = T-and (member b (a ∷ onward)) (before m b a) .0 t in
+        let h = before-says m b a (both .1) in
+        ⊎-elim (λ e. before-irreflexive m a (subst (λ i. Before m i a) e h))
+        (λ x. before-irreflexive m a (before-trans m a b a (first b x) h)) (said b a onward (both .0)))
+
+    -- its width is ahead of one that it ranks before
+    ahead-later : (b : ℕ) → Before m a b → ahead m (λ c. member c (a ∷ onward)) b ≡ ahead m (λ c. member c onward) b + m .width a
+    ahead-later b h =
+        cores-cons m (λ c. before m c b) a onward known new
+        ∙ ap (λ (x : ℕ). ahead m (λ c. member c onward) b + x) (cost (before m a b) (m .width a) (before-is m a b h))
+
+  taken-fits : (l : List ℕ) (used b : ℕ) → Sorted m l → In l → T (member b (walk m l used)) → Beside (walk m l used) used b
+  unfolding walk member
+  taken-fits [] used b s within t = absurd t
+  taken-fits (a ∷ l) used b s within t =
+      one (λ u. taken-fits l u b (rest a l used s within) (fewer a l used s within))
+      (leb (used + m .width a) (m .cores)) (λ x. T-leb (used + m .width a) (m .cores) .0 x) t
+    where
+      one : ((u : ℕ) → T (member b (walk m l u)) → Beside (walk m l u) u b) → (x : Bool) → (T x → used + m .width a ≤ m .cores)
+          → T (member b (gone-on a l used x)) → Beside (gone-on a l used x) used b
+      one ih true fit t =
+          ⊎-elim (λ e. subst (λ i. Beside (a ∷ walk m l (used + m .width a)) used i) (sym e)
+          (omega (arith, fit tt, ahead-first a l used s within)))
+          (λ t. omega (
+            arith,
+            ih (used + m .width a) t,
+            ahead-later a l used s within b (first a l used s within b t),
+          ))
+          (said b a (walk m l (used + m .width a)) t)
+      one ih false fit t = ih used t
+
+  fits-taken : (l : List ℕ) (used b : ℕ) → Sorted m l → In l → T (member b l) → Beside (walk m l used) used b
+      → T (member b (walk m l used))
+  unfolding walk Sorted member
+  fits-taken [] used b s within t h = absurd t
+  fits-taken (a ∷ l) used b s within t h =
+      one (λ u. fits-taken l u b (rest a l used s within) (fewer a l used s within))
+      (leb (used + m .width a) (m .cores)) (λ f le. f (T-leb (used + m .width a) (m .cores) .1 le)) h
+    where
+      one : ((u : ℕ) → T (member b l) → Beside (walk m l u) u b → T (member b (walk m l u)))
+          → (x : Bool) → ((¬ T x) → ¬ (used + m .width a ≤ m .cores)) → Beside (gone-on a l used x) used b
+          → T (member b (gone-on a l used x))
+      one ih true fit h =
+          ⊎-elim (λ e. here b a (walk m l (used + m .width a)) e)
+          (λ t. there b a (walk m l (used + m .width a)) (ih (used + m .width a) t
+          (omega (arith, h, ahead-later a l used s within b (s .0 b t)))))
+          (said b a l t)
+      one ih false fit h =
+          ⊎-elim (λ e. absurd (fit (λ x. x) (omega (arith, h, ap (m .width) e)))) (λ t. ih used t h) (said b a l t)
+
+  -- no more cores than there are
+  walk-cores : (l : List ℕ) (used : ℕ) → Sorted m l → In l → used ≤ m .cores
+      → used + coresOf m (λ b. member b (walk m l used)) ≤ m .cores
+  unfolding walk member
+  walk-cores [] used s within h = omega (arith, h, cores-none m (λ b. member b []) (λ b _ t. t))
+  walk-cores (a ∷ l) used s within h =
+      one (λ u. walk-cores l u (rest a l used s within) (fewer a l used s within))
+      (leb (used + m .width a) (m .cores)) (λ x. T-leb (used + m .width a) (m .cores) .0 x)
+    where
+      all-of : (w : List ℕ) → coresOf m (λ b. member b w && true) ≡ coresOf m (λ b. member b w)
+      all-of w = cores-ext m (λ b. member b w && true) (λ b. member b w) (λ b _. and-true (member b w))
+
+      one : ((u : ℕ) → u ≤ m .cores → u + coresOf m (λ b. member b (walk m l u)) ≤ m .cores)
+          → (x : Bool) → (T x → used + m .width a ≤ m .cores) → used + coresOf m (λ b. member b (gone-on a l used x)) ≤ m .cores
+      one ih true fit =
+          omega (
+            arith,
+            ih (used + m .width a) (fit tt),
+            cores-cons m (λ _. true) a (walk m l (used + m .width a)) (known a l used s within) (new a l used s within),
+            all-of (walk m l (used + m .width a)),
+            all-of (a ∷ walk m l (used + m .width a)),
+          )
+      one ih false fit = ih used h
+
+-- ---- the choice of a tick
+
+-- An activity is active exactly where it is ready and fits beside the active that rank before it.
+pub record Fits (m : Model) (rdy act : ℕ → Bool) : Type 0 where
+  pub is-ready : (a : ℕ) → a < m .activities → T (act a) → T (rdy a)
+  pub has-room : (a : ℕ) → a < m .activities → T (act a) → m .width a + ahead m act a ≤ m .cores
+  pub is-active : (a : ℕ) → a < m .activities → T (rdy a) → m .width a + ahead m act a ≤ m .cores → T (act a)
+
+-- the walk's choice
+pub selected-fits : (m : Model) (rdy : ℕ → Bool) → Fits m rdy (selected m rdy)
+unfolding selected walked In
+selected-fits m rdy = record {
+  is-ready = λ a _ t. ranked-says m rdy (m .activities) a (walk-says m (inRank m rdy (m .activities)) 0 a t) .1;
+  has-room = λ a _ t. omega (arith, taken-fits m (inRank m rdy (m .activities)) 0 a (ranked-sorted m rdy (m .activities)) within t);
+  is-active = λ a l r h.
+      fits-taken m (inRank m rdy (m .activities)) 0 a (ranked-sorted m rdy (m .activities)) within
+      (ranked-has m rdy (m .activities) a l r) (omega arith);
+}
+  where
+    within : In m (inRank m rdy (m .activities))
+    within b t = ranked-says m rdy (m .activities) b t .0
+
+pub selected-few : (m : Model) (rdy : ℕ → Bool) → coresOf m (selected m rdy) ≤ m .cores
+unfolding selected walked In
+selected-few m rdy =
+    omega (
+      arith,
+      walk-cores m (inRank m rdy (m .activities)) 0 (ranked-sorted m rdy (m .activities))
+          (λ b t. ranked-says m rdy (m .activities) b t .0) (omega arith),
+    )
+
+-- Two that fit agree on an activity if the ready agree on it and on those that rank before it.
+module _ (m : Model) (rdy rdy′ act act′ : ℕ → Bool) (fits : Fits m rdy act) (fits′ : Fits m rdy′ act′) where
+  -- the ready agree on those that rank before a
+  abbrev Ahead : ℕ → Type 0
+  Ahead a = (b : ℕ) → b < m .activities → Before m b a → rdy b ≡ rdy′ b
+
+  fits-below : (k a : ℕ) → a < m .activities → place m a < k → rdy a ≡ rdy′ a → Ahead a → act a ≡ act′ a
+  fits-below zero a l h same ahead-same = absurd (omega arith)
+  fits-below (suc k) a l h same ahead-same =
+      let as-many : ahead m act a ≡ ahead m act′ a =
+      cores-ext m (λ b. act b && before m b a) (λ b. act′ b && before m b a) (λ b lb.
+      and-same (act b) (act′ b) (before m b a) (λ t.
+      let first = before-says m b a t in
+      fits-below k b lb (omega (arith, place-less m b a lb first)) (ahead-same b lb first)
+      (λ c lc g. ahead-same c lc (before-trans m c b a g first)))) in
+      T-ext (act a) (act′ a)
+      (λ t. fits′ .is-active a l (subst T same (fits .is-ready a l t)) (omega (arith, as-many, fits .has-room a l t)))
+      (λ t. fits .is-active a l (subst T (sym same) (fits′ .is-ready a l t)) (omega (arith, as-many, fits′ .has-room a l t)))
+
+  pub fits-same : (a : ℕ) → a < m .activities → rdy a ≡ rdy′ a → Ahead a → act a ≡ act′ a
+  fits-same a l same ahead-same = fits-below (suc (place m a)) a l (omega arith) same ahead-same
 
 -- Whether an activity is selected depends only on the ready that rank before it, and on itself.
-pub selected-local : (m : Model) (rdy rdy′ : ℕ → Bool) (a : ℕ) → rdy a ≡ rdy′ a
+pub selected-local : (m : Model) (rdy rdy′ : ℕ → Bool) (a : ℕ) → a < m .activities → rdy a ≡ rdy′ a
     → ((b : ℕ) → b < m .activities → Before m b a → rdy b ≡ rdy′ b)
     → selected m rdy a ≡ selected m rdy′ a
-unfolding selected rank
-selected-local m rdy rdy′ a same ahead-same =
-    ap₂ (λ (r : Bool) (k : ℕ). r && ltb k (m .cores)) same
-    (count-ext (m .activities) _ _ (λ b l. and-same (rdy b) (rdy′ b) (before m b a) (λ t. ahead-same b l (before-says m b a t))))
+selected-local m rdy rdy′ a = fits-same m rdy rdy′ _ _ (selected-fits m rdy) (selected-fits m rdy′) a
 
--- The ready of a tick, by `rdy`.
-module _ (m : Model) (rdy : ℕ → Bool) where
-  ahead : ℕ → ℕ → Bool
-  ahead a b = rdy b && before m b a
+-- those that fit are the selected
+pub fits-selected : (m : Model) (rdy act : ℕ → Bool) → Fits m rdy act → (a : ℕ) → a < m .activities → act a ≡ selected m rdy a
+fits-selected m rdy act fits a l = fits-same m rdy rdy act (selected m rdy) fits (selected-fits m rdy) a l refl (λ _ _ _. refl)
 
-  -- what counts towards a's rank is ready and ranks before a
-  ahead-says : (a b : ℕ) → T (ahead a b) → T (rdy b) × Before m b a
-  unfolding ahead
-  ahead-says a b t = let h = T-and (rdy b) (before m b a) .0 t in (h .0, before-says m b a (h .1))
+-- What rules 28 to 31 say of a tick whose active are `act`: they are ready, they take at most c cores, and a ready one that is
+-- not active, though it would fit beside the active that rank before it, ranks before none where all c are taken, and there is
+-- none where fewer are.
+pub record Picked (m : Model) (rdy act : ℕ → Bool) : Type 0 where
+  pub are-ready : (a : ℕ) → a < m .activities → T (act a) → T (rdy a)
+  pub at-most : coresOf m act ≤ m .cores
+  pub not-idle : coresOf m act < m .cores → (b : ℕ) → b < m .activities → T (rdy b)
+      → m .width b + ahead m act b ≤ m .cores → T (act b)
+  pub in-order : coresOf m act ≡ m .cores → (b a : ℕ) → b < m .activities → a < m .activities
+      → T (rdy b) → m .width b + ahead m act b ≤ m .cores → (¬ T (act b)) → T (act a) → ¬ Before m b a
 
-  ahead-is : (a b : ℕ) → T (rdy b) → Before m b a → T (ahead a b)
-  unfolding ahead
-  ahead-is a b r h = T-and (rdy b) (before m b a) .1 (r, before-is m b a h)
-
-  -- a ready activity that ranks before another has a lower rank
-  rank-less : (b a : ℕ) → b < m .activities → T (rdy b) → Before m b a → rank m rdy b < rank m rdy a
-  unfolding rank ahead
-  rank-less b a l r h =
-      count-less (m .activities) (ahead b) (ahead a)
-      (λ i _ t. let s = ahead-says b i t in ahead-is a i (s .0) (before-trans m i b a (s .1) h))
-      b l (ahead-is a b r h) (λ t. before-irreflexive m b (ahead-says b b t .1))
-
-  selected-says : (a : ℕ) → T (selected m rdy a) → T (rdy a) × (rank m rdy a < m .cores)
-  unfolding selected
-  selected-says a t = simp tests at t
-
-  selected-is : (a : ℕ) → T (rdy a) → rank m rdy a < m .cores → T (selected m rdy a)
-  unfolding selected
-  selected-is a r h = T-and (rdy a) (ltb (rank m rdy a) (m .cores)) .1 (r, lt→ltb _ _ h)
-
-  -- the ready whose rank is below k
-  within-first : ℕ → ℕ → Bool
-  within-first k a = rdy a && ltb (rank m rdy a) k
-
-  -- the ready whose rank is k
-  exactly : ℕ → ℕ → Bool
-  exactly k a = rdy a && eqb (rank m rdy a) k
-
-  -- two ready activities of one rank are the same
-  rank-tells : (a b : ℕ) → a < m .activities → b < m .activities → T (rdy a) → T (rdy b)
-      → rank m rdy a ≡ rank m rdy b → a ≡ b
-  rank-tells a b la lb ra rb e = ⊎-elim (λ x. x) (λ d. absurd (differ d)) (same a b)
-    where
-      same : (a b : ℕ) → (a ≡ b) ⊎ (¬ (a ≡ b))
-      same a b = elim (ℕ-discrete a b) [ yes x ↦ inl x | no x ↦ inr x ]
-
-      differ : ¬ (a ≡ b) → ⊥
-      differ d =
-          ⊎-elim (λ h. omega (arith, rank-less a b la ra h)) (λ h. omega (arith, rank-less b a lb rb h))
-          (before-total m a b d)
-
-  -- at most k of the ready have a rank below k
-  first-few : (k : ℕ) → count (m .activities) (within-first k) ≤ k
-  unfolding within-first exactly
-  first-few zero =
-      le-of-eq (count-none (m .activities) (within-first 0)
-      (λ i l t. absurd (not-suc-le-zero (ltb→lt (rank m rdy i) 0 (T-and (rdy i) (ltb (rank m rdy i) 0) .0 t .1)))))
-  first-few (suc k) =
-      omega (
-        arith,
-        first-few k,
-        count-union (m .activities) (within-first (suc k)) (within-first k) (exactly k) (λ i _ t. split i (simp tests at t)),
-        count-single (m .activities) (exactly k) (λ i j li lj ti tj. one i j li lj (simp tests at ti) (simp tests at tj)),
-      )
-    where
-      split : (i : ℕ) → T (rdy i) × (rank m rdy i < suc k) → T (within-first k i) ⊎ T (exactly k i)
-      split i h =
-          ⊎-elim (λ l. inl (simp tests (h .0, l))) (λ e. inr (simp tests (h .0, e))) (below-suc (rank m rdy i) k (h .1))
-
-      one : (i j : ℕ) → i < m .activities → j < m .activities → T (rdy i) × (rank m rdy i ≡ k)
-          → T (rdy j) × (rank m rdy j ≡ k) → i ≡ j
-      one i j li lj hi hj = rank-tells i j li lj (hi .0) (hj .0) (hi .1 ∙ sym (hj .1))
-
-  -- "The first c": no more than c are selected
-  pub selected-few : count (m .activities) (selected m rdy) ≤ m .cores
-  unfolding selected within-first
-  selected-few = first-few (m .cores)
-
-  -- by rank: those before a ready activity are selected, so its rank is below their number
-  selected-below : (k : ℕ) → count (m .activities) (selected m rdy) < m .cores
-      → (a : ℕ) → a < m .activities → T (rdy a) → rank m rdy a < k → T (selected m rdy a)
-  unfolding rank ahead
-  selected-below zero few a l r b = absurd (omega arith)
-  selected-below (suc k) few a l r b = selected-is a r (omega (arith, fewer (selected-below k few)))
-    where
-      fewer : ((i : ℕ) → i < m .activities → T (rdy i) → rank m rdy i < k → T (selected m rdy i))
-          → rank m rdy a ≤ count (m .activities) (selected m rdy)
-      fewer ih =
-          count-mono (m .activities) (ahead a) (selected m rdy)
-          (λ i li t. let h = ahead-says a i t in ih i li (h .0) (omega (arith, rank-less i a li (h .0) (h .1))))
-
-  -- "or all if fewer": where fewer than c are selected, every ready activity is
-  pub selected-all : count (m .activities) (selected m rdy) < m .cores
-      → (a : ℕ) → a < m .activities → T (rdy a) → T (selected m rdy a)
-  selected-all few a l r = selected-below (suc (rank m rdy a)) few a l r (omega arith)
-
-  -- a ready activity that is not selected ranks before no selected one
-  pub selected-first : (b a : ℕ) → b < m .activities → T (rdy b) → (¬ T (selected m rdy b)) → T (selected m rdy a) → ¬ Before m b a
-  selected-first b a l r not-selected t h =
-      not-selected (selected-is b r (omega (arith, rank-less b a l r h, selected-says a t .1)))
-
-  -- What rules 28 to 31 say of a tick whose active are `act`: they are ready, they are at most c, and a ready one that
-  -- is not active ranks before none of c active ones and stands beside no fewer than c.
-  pub record Picked (act : ℕ → Bool) : Type 0 where
-    pub are-ready : (a : ℕ) → a < m .activities → T (act a) → T (rdy a)
-    pub at-most : count (m .activities) act ≤ m .cores
-    pub not-idle : count (m .activities) act < m .cores → (b : ℕ) → b < m .activities → T (rdy b) → T (act b)
-    pub in-order : count (m .activities) act ≡ m .cores → (b a : ℕ) → b < m .activities → a < m .activities
-        → T (rdy b) → (¬ T (act b)) → T (act a) → ¬ Before m b a
-
-  -- those active are the selected
-  pub picked-selected : (act : ℕ → Bool) → Picked act → (a : ℕ) → a < m .activities → act a ≡ selected m rdy a
-  unfolding rank ahead
-  picked-selected act p a l = T-ext (act a) (selected m rdy a) there back
-    where
-      n : ℕ
-      n = m .activities
-
-      full : (count n act < m .cores) ⊎ (count n act ≡ m .cores)
-      full = elim (decLt (count n act) (m .cores)) [ yes h ↦ inl h | no h ↦ inr (omega (arith, p .at-most)) ]
-
-      -- whatever ranks before an active one is active
-      kept : T (act a) → (i : ℕ) → i < n → T (ahead a i) → T (act i)
-      kept t i li x =
-          let h = ahead-says a i x in
-          ⊎-elim (λ y. y)
-          (λ idle. ⊎-elim (λ few. p .not-idle few i li (h .0))
-          (λ all. absurd (p .in-order all i a li l (h .0) idle t (h .1))) full)
-          (decT (act i))
-
-      there : T (act a) → T (selected m rdy a)
-      there t =
-          selected-is a (p .are-ready a l t)
-          (omega (
-            arith,
-            p .at-most,
-            count-less n (ahead a) act (kept t) a l t (λ x. before-irreflexive m a (ahead-says a a x .1)),
-          ))
-
-      -- with c active and a not among them, all of them rank before a
-      others : (¬ T (act a)) → T (rdy a) → count n act ≡ m .cores → (i : ℕ) → i < n → T (act i) → T (ahead a i)
-      others idle r all i li t =
-          ⊎-elim (λ h. ahead-is a i (p .are-ready i li t) h) (λ h. absurd (p .in-order all a i l li r idle t h))
-          (before-total m i a (λ e. idle (subst (λ x. T (act x)) e t)))
-
-      back : T (selected m rdy a) → T (act a)
-      back t =
-          let h = selected-says a t in
-          ⊎-elim (λ y. y)
-          (λ idle. ⊎-elim (λ few. p .not-idle few a l (h .0))
-          (λ all. absurd (omega (arith, h .1, all, count-mono n act (ahead a) (others idle (h .0) all)))) full)
-          (decT (act a))
+-- where every activity takes a core, those are the ones that fit
+pub picked-fits : (m : Model) (rdy act : ℕ → Bool) → ((a : ℕ) → a < m .activities → 1 ≤ m .width a)
+    → Picked m rdy act → Fits m rdy act
+picked-fits m rdy act wide p = record {
+  is-ready = p .are-ready;
+  has-room = λ a l t. omega (arith, ahead-room m act a l t, p .at-most);
+  is-active = λ b l r h. ⊎-elim (λ x. x)
+      (λ idle. elim (decLt (coresOf m act) (m .cores)) [
+        | yes few ↦ p .not-idle few b l r h
+        | no many ↦ absurd (outranks b l r h idle (omega (arith, p .at-most)))
+      ])
+      (decT (act b));
+}
+  where
+    outranks : (b : ℕ) → b < m .activities → T (rdy b) → m .width b + ahead m act b ≤ m .cores → (¬ T (act b))
+        → coresOf m act ≡ m .cores → ⊥
+    outranks b l r h idle all =
+        let found = not-ahead m act b (omega (arith, wide b l)) in
+        p .in-order all b (found .0) l (found .1) r h idle (found .2) (
+        ⊎-elim (λ x. x) (λ x. absurd (found .3 (before-is m (found .0) b x)))
+        (before-total m b (found .0) (λ e. idle (subst (λ i. T (act i)) (sym e) (found .2)))))

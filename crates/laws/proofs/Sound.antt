@@ -14,7 +14,7 @@ use Rattle.schedule.specs.Model.{Model, Page, page, model, headRules, rowRules,
 use Rattle.schedule.specs.Timing.{deadlineRule}
 use Rattle.schedule.specs.Choice.{Choice, choice, choiceForm}
 use Rattle.schedule.specs.Plan.{Plan, plan, planForm}
-use Rattle.schedule.specs.Checks.{Window, window, Waiting, waits}
+use Rattle.schedule.specs.Checks.{Window, window, Waiting, waits, Contends, contends}
 use Rattle.schedule.specs.Checks.{ruleOf, rulesOf, plainOrder, strictOrder, plainRules, strictRules}
 use Rattle.schedule.specs.Answers.{owedRule, runRules, plainChecks, strictChecks, runChecks}
 use Rattle.schedule.specs.Report.{rowsRule, reportRules}
@@ -24,7 +24,7 @@ use Rattle.laws.proofs.Tests.{tests}
 use Rattle.laws.proofs.Deadlines.{in-time-sound}
 use Rattle.laws.proofs.FirstBreak.{Sound, AllSound, sound-append, _&_}
 
--- the two statements that are records, by their parts
+-- the statements that are records, by their parts
 pub window-sound : (m : Model) (p : Plan) (a : ℕ) → T (window m p a) ↔ Window m p a
 unfolding window
 window-sound m p a = simp tests (
@@ -51,8 +51,15 @@ waits-sound m p t a = simp tests (
   λ w. ((w .clear, (w .eligible, w .unended)), (w .temporal, w .by-data)),
 )
 
+pub contends-sound : (m : Model) (p : Plan) (t b : ℕ) → T (contends m p t b) ↔ Contends m p t b
+unfolding contends
+contends-sound m p t b = simp (tests, waits-sound) (
+  λ h. record { waiting = h .0; fits = h .1 },
+  λ w. (w .waiting, w .fits),
+)
+
 -- a whole rule's test, read at once
-ruleset whole = (tests, window-sound, waits-sound, in-time-sound)
+ruleset whole = (tests, window-sound, contends-sound, in-time-sound)
 
 -- once its test is read, a rule's test and its statement are the same
 same : (P : ℕ → ℕ → Type 0) (a b : ℕ) → P a b ↔ P a b
@@ -65,7 +72,7 @@ headRules-sound s = simp whole (same _ & same _ & same _ & same _ & same _ & tt)
 
 pub rowRules-sound : (p : Page) → AllSound (rowRules p)
 unfolding form-rules
-rowRules-sound p = simp whole (same _ & same _ & same _ & same _ & same _ & tt)
+rowRules-sound p = simp whole (same _ & same _ & same _ & same _ & same _ & same _ & tt)
 
 pub modelForm-sound : (s : List ℕ) → AllSound (modelForm s)
 unfolding modelForm

@@ -10,16 +10,17 @@ use mathlib.Core.Logic.{_⊎_, inl, inr, ⊎-elim}
 use mathlib.Core.Path.{_≡_, sym, subst, ap, _∙_}
 use lib.Dec.{T}
 use lib.Pow.{pow-mono}
-use Rattle.schedule.specs.Bounded.{count, bit, ones}
+use Rattle.schedule.specs.Bounded.{count, bit}
 use Rattle.schedule.specs.Model.{Model, temporally, byData, Ordered}
 use Rattle.schedule.specs.Plan.{Plan, active}
 use Rattle.schedule.specs.Machine.{State, owes, endOf, ready, machineWord, machineStart, machineEnd, machineOwes}
-use Rattle.schedule.specs.Checks.{countOf, efe, Waiting}
+use Rattle.schedule.specs.Checks.{countOf, efe, Waiting, ahead, Contends}
 use Rattle.schedule.specs.Keeps.{KeepsStrict}
 use Rattle.laws.proofs.Counting.{decT, T-false, weight, one-if, zero-if}
 use Rattle.laws.proofs.Counting.{count-suc, count-zero, count-some, count-grows, count-stops, count-between}
-use Rattle.laws.proofs.Words.{bit-high, word-ext, ones-count}
-use Rattle.laws.proofs.Selection.{Before, Picked, picked-selected}
+use Rattle.laws.proofs.Words.{bit-high, word-ext}
+use Rattle.laws.proofs.Rank.{Before}
+use Rattle.laws.proofs.Selection.{Picked, picked-fits, fits-selected}
 use Rattle.laws.proofs.Lowest.{lowest-unique}
 use Rattle.laws.proofs.MachineLaws.{Ready, ready-sound, at, runs, owes-first, owes-next, runs-selected, word-lt, end-idle, end-last}
 use Rattle.laws.proofs.EfeLaws.{efe-release, efe-bound}
@@ -29,6 +30,7 @@ use Rattle.laws.proofs.Windows.{window-span}
 -- m on, its releases are the machine's, and its counts are the durations.
 pub record Beside (m : Model) (release duration : ℕ → ℕ) (p : Plan) : Type 0 where
   pub ordered : Ordered m
+  pub wide : (a : ℕ) → a < m .activities → 1 ≤ m .width a
   pub few : m .activities ≤ 32
   pub narrow : (t : ℕ) → t < m .horizon → p .word t < 2 ^ 32
   pub known : (t : ℕ) → t < m .horizon → (b : ℕ) → b < 32 → m .activities ≤ b → ¬ T (active p t b)
@@ -123,33 +125,33 @@ module _ (m : Model) (release duration : ℕ → ℕ) (p : Plan) (w : Beside m r
           by-data = behind;
         }
 
-    ones-active : ones (p .word t) ≡ count (m .activities) (λ a. active p t a)
-    ones-active = ones-count (p .word t) (m .activities) (w .few) (w .known t in-time)
+    -- a ready activity that is not active, though it would fit, contends
+    ready-contends : (b : ℕ) → b < m .activities → T (ready m release t s b) → (¬ T (active p t b))
+        → m .width b + ahead m (active p t) b ≤ m .cores → Contends m p t b
+    ready-contends b l r idle room = record {
+      waiting = ready-waits b l (ready-sound m release t s b .0 r) idle;
+      fits = room;
+    }
 
-    picked : Picked m (ready m release t s) (λ a. active p t a)
+    picked : Picked m (ready m release t s) (active p t)
     unfolding s Before
     picked = record {
       are-ready = λ a l x. ready-sound m release t s a .1 (active-ready a l x);
-      at-most = omega (arith, ones-active, k .plain .cores t in-time);
-      not-idle = λ few b l r. ⊎-elim (λ x. x)
-          (λ x. absurd (k .idle t b in-time l (omega (arith, ones-active))
-          (ready-waits b l (ready-sound m release t s b .0 r) x)))
+      at-most = k .plain .cores t in-time;
+      not-idle = λ few b l r room. ⊎-elim (λ x. x)
+          (λ x. absurd (k .idle t b in-time l few (ready-contends b l r x room)))
           (decT (active p t b));
-      in-order = λ all b a lb la r x y. ⊎-elim
-          (λ h. omega (
-            arith,
-            k .plain .priority t b in-time lb (ones-active ∙ all)
-                (ready-waits b lb (ready-sound m release t s b .0 r) x) a la y,
-          ))
-          (λ h. k .tie t b in-time lb (ready-waits b lb (ready-sound m release t s b .0 r) x) (ones-active ∙ all)
-          a la y (h .1) (h .0));
+      in-order = λ all b a lb la r room x y. ⊎-elim
+          (λ h. omega (arith, k .plain .priority t b in-time lb all (ready-contends b lb r x room) a la y))
+          (λ h. k .tie t b in-time lb (ready-contends b lb r x room) all a la y (h .1) (h .0));
     }
 
     -- the plan's tick is the machine's
     same-bit : (a : ℕ) → a < m .activities → active p t a ≡ runs m release duration t a
     unfolding s
     same-bit a l =
-        picked-selected m (ready m release t s) (λ a. active p t a) picked a l ∙ sym (runs-selected m release duration t a l)
+        fits-selected m (ready m release t s) (active p t) (picked-fits m (ready m release t s) (active p t) (w .wide) picked) a l
+        ∙ sym (runs-selected m release duration t a l)
 
     -- the last active tick is the one before the end
     last-tick : (a : ℕ) → a < m .activities → T (active p t a) → done (suc t) a ≡ duration a → p .end a ≡ t + 1

@@ -18,7 +18,7 @@ use Rattle.schedule.specs.Rule.{AllHold}
 use Rattle.schedule.specs.Records.{Within}
 use Rattle.schedule.specs.Rounds.{noLoop, movedMask, withLoop, movedRelease, numberIn}
 use Rattle.schedule.specs.Model.{Page, page, unrolled, modelForm, temporally, byData}
-use Rattle.schedule.specs.Model.{limitsRule, roundsRule, threadRule, periodRule, activityRule, loopRule, maskRule}
+use Rattle.schedule.specs.Model.{limitsRule, roundsRule, threadRule, periodRule, activityRule, loopRule, widthRule, maskRule}
 use Rattle.schedule.specs.Unrolls.{ThreadMoved, ActivityMoved, Unrolls}
 use Rattle.schedule.specs.Numbers.{formNumber}
 use Rattle.schedule.specs.Opened.{form-rules}
@@ -34,6 +34,7 @@ pub record Formal (p : Page) : Type 0 where
   pub periods : (j : ℕ) → j < p .plain .threads → periodRule p .Holds j 0
   pub owners : (a : ℕ) → a < p .plain .activities → activityRule (p .plain) .Holds a 0
   pub loops : (a : ℕ) → a < p .plain .activities → loopRule p .Holds a 0
+  pub widths : (a : ℕ) → a < p .plain .activities → widthRule (p .plain) .Holds a 0
   pub masks : (a : ℕ) → a < p .plain .activities → maskRule (p .plain) .Holds a 0
 
 pub page-says : (s : List ℕ) → AllHold (modelForm s) → Formal (page s)
@@ -46,6 +47,7 @@ page-says s h =
       periods = λ j l. says (formNumber (FormRefusal.ModelRow RowRule.Period)) (modelForm s) h j 0 l (omega arith);
       owners = λ a l. says (formNumber (FormRefusal.ModelRow RowRule.Activity)) (modelForm s) h a 0 l (omega arith);
       loops = λ a l. says (formNumber (FormRefusal.ModelRow RowRule.Loop)) (modelForm s) h a 0 l (omega arith);
+      widths = λ a l. says (formNumber (FormRefusal.ModelRow RowRule.Width)) (modelForm s) h a 0 l (omega arith);
       masks = λ a l. says (formNumber (FormRefusal.ModelRow RowRule.Masks)) (modelForm s) h a 0 l (omega arith);
     }
 
@@ -276,6 +278,7 @@ module _ (p : Page) (h : Formal p) where
         let same = same-round k a (p .plain .data-mask a) l b place other below
         (λ x less above. h .masks a place x less above .1) in
         (λ t. same .0 (subst (λ c. T c) e t), λ w. subst (λ c. T c) (sym e) (same .1 w));
+    width = row-of i m k a (λ _ x. p .plain .width x) activities-fit round place;
   }
 
   pub unrolls : ((j : ℕ) → j < n → p .plain .most-release j < 65536) → Unrolls p (unrolled p)
@@ -334,6 +337,12 @@ module _ (p : Page) (h : Formal p) where
       let moved = activity-moved k a round place in
       rw (moved .thread, moved .least-duration, moved .most-duration, threads-all)
       ((digits-lt {q = k} {m = i} round (owner .0 .0), owner .0 .1), owner .1))
+
+  pub widths-kept : (x : ℕ) → x < unrolled p .activities → widthRule (unrolled p) .Holds x 0
+  unfolding unrolled widthRule
+  widths-kept =
+      every-activity (λ x. widthRule (unrolled p) .Holds x 0)
+      (λ k a round place. rw (activity-moved k a round place .width) (h .widths a place))
 
   -- no moved bit, and no loop's, is at the row's own number or above
   pub masks-kept : (x : ℕ) → x < unrolled p .activities → maskRule (unrolled p) .Holds x 0

@@ -85,6 +85,10 @@ pub zero-bits : (n x : ℕ) → x < 2 ^ n → (x ≡ 0) ↔ ((b : ℕ) → b < n
 zero-bits n x h =
     (λ e b l. ap (λ (w : ℕ). bit w b) e ∙ bit-zero b, λ f. word-ext n x 0 h (pow-pos n) (λ b l. f b l ∙ sym (bit-zero b)))
 
+-- the word of nothing
+pub word-none : (n : ℕ) (p : ℕ → Bool) → ((b : ℕ) → b < n → p b ≡ false) → wordOf n p ≡ 0
+word-none n p h = zero-bits n (wordOf n p) (wordOf-lt n p) .1 (λ b l. bit-wordOf n p b l ∙ h b l)
+
 -- ---- a word of one bit
 
 pub bit-pow : (b c : ℕ) → bit (2 ^ b) c ≡ eqb c b
@@ -144,6 +148,19 @@ with-or w b h =
 pub with-high : (w b : ℕ) → 32 ≤ b → withBit w b ≡ w
 unfolding withBit
 with-high w b h = rw (le-ltb b 32 h)
+
+pub bit-with : (w b x : ℕ) → b < 32 → bit (withBit w b) x ≡ (bit w x || eqb x b)
+bit-with w b x h =
+    ap (λ (v : ℕ). bit v x) (with-or w b h)
+    ∙ bit-or w (2 ^ b) x
+    ∙ ap (λ (t : Bool). bit w x || t) (bit-pow b x)
+
+pub with-lt : (w b : ℕ) → w < 2 ^ 32 → withBit w b < 2 ^ 32
+with-lt w b fits =
+    elim (decLt b 32) [
+      | yes l ↦ rw (with-or w b l) (or-lt 32 w (2 ^ b) fits (pow-lt l))
+      | no l ↦ rw (with-high w b (omega arith)) fits
+    ]
 
 -- a word is its part in m and its part outside
 and-parts : (n w m : ℕ) → w < 2 ^ n → m < 2 ^ n → bitAnd w m + bitAnd w ((2 ^ n - 1) - m) ≡ w
