@@ -12,4 +12,5 @@ row-columns RowRule.Thread p = refl
 row-columns RowRule.Period p = refl
 row-columns RowRule.Activity p = refl
 row-columns RowRule.Loop p = refl
+row-columns RowRule.Width p = refl
 row-columns RowRule.Masks p = refl

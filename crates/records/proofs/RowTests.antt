@@ -6,7 +6,7 @@ use mathlib.Core.List.{List}
 use mathlib.Core.Path.{_≡_, refl, sym, ap, ap₂, _∙_}
 use Rattle.schedule.specs.Answers.{Answer}
 use Rattle.schedule.specs.Records.{within}
-use Rattle.schedule.specs.Model.{Model, Page, threadRule, periodRule, activityRule, loopRule, maskRule}
+use Rattle.schedule.specs.Model.{Model, Page, threadRule, periodRule, activityRule, loopRule, widthRule, maskRule}
 use Rattle.schedule.specs.Choice.{Choice, durationRule, rangeRule}
 use Rattle.schedule.specs.Plan.{plan, planGrid, wordIn, wordRule}
 use Rattle.laws.proofs.PlanBytes.{word-read}
@@ -54,6 +54,13 @@ pub activity-answered : (m : Model) (a n : ℕ) (o : Answer Row) (t : Bool) (row
 unfolding activityRule activityHolds activityRowOf
 activity-answered m a n o t row e threads holds said =
     row-answered (activityRule m) a o t (Row.Activity row) _ said (holds ∙ ap₂ activityHolds threads e) (ap Row.Activity e)
+
+pub width-answered : (m : Model) (a width cores : ℕ) (o : Answer Row) (t : Bool) → width ≡ m .width a → cores ≡ m .cores
+    → t ≡ within 1 cores width → o ≡ answerAt t (Row.Width width) 57 a
+    → o ≡ rowAnswer (widthRule m) a (Row.Width (m .width a))
+unfolding widthRule
+width-answered m a width cores o t e same holds said =
+    row-answered (widthRule m) a o t (Row.Width width) _ said (holds ∙ ap₂ (within 1) same e) (ap Row.Width e)
 
 pub masks-answered : (m : Model) (a : ℕ) (o : Answer Row) (t : Bool) (row : ActivityRow) → row ≡ activityRowOf m a
     → t ≡ masksHold a row → o ≡ answerAt t (Row.Activity row) 7 a

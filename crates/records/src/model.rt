@@ -47,7 +47,7 @@ pub struct ThreadRow {
     pub priority: u16,
 }
 
-// "thread (1), least and most duration (2 each), delay (2), temporal mask (4), data mask (4)"
+// "thread (1), least and most duration (2 each), delay (2), temporal mask (4), data mask (4)", and "a last byte .., its width".
 pub struct ActivityRow {
     pub thread: Thread,
     pub least_duration: u16,
@@ -55,6 +55,7 @@ pub struct ActivityRow {
     pub delay: u16,
     pub temporal_mask: u32,
     pub data_mask: u32,
+    pub width: u8,
 }
 
 // ---- the unrolled model
@@ -127,7 +128,7 @@ pub fn thread_row(s: &[u8], j: Thread) -> ThreadRow
 }
 
 // An activity's row in round k of n threads and m activities each, with its loop byte q: its thread is that of the round, and
-// "Masks move likewise".
+// "Masks move likewise". Its width is the same in every round.
 fn moved_activity(row: ActivityRow, n: u8, m: u8, k: u8, q: u8) -> ActivityRow
     ensures { λ r. ⌜ r ≡ movedActivity n m k q row ⌝ }
 {
@@ -140,6 +141,7 @@ fn moved_activity(row: ActivityRow, n: u8, m: u8, k: u8, q: u8) -> ActivityRow
         delay: row.delay,
         temporal_mask: unroll::with_loop(k, m, q, temporal),
         data_mask: unroll::mask(k, m, row.data_mask),
+        width: row.width,
     }
 }
 
@@ -156,6 +158,7 @@ fn activity_by_round(s: &[u8], a: u8, m: u8) -> ActivityRow
             delay: 0,
             temporal_mask: 0,
             data_mask: 0,
+            width: 0,
         };
     }
     let place = unroll::place(a, m);

@@ -16,6 +16,7 @@ pub enum Row {
     Thread(ThreadRow),
     Activity(ActivityRow),
     Loop(u8),
+    Width(u8),
     // of a choice or a plan
     Timing(Timing),
     Duration(u16),

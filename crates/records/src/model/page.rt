@@ -1,6 +1,7 @@
 // A page as the model record's bytes say it: "cores c (1 byte, 1..8), threads n (1 byte, 1..8), activities m (1 byte, 1..32),
 // horizon H (2 bytes, 1..4096)", from version 2 on the rounds i (1 byte); "Then n thread rows of 10 bytes .. Then m activity
-// rows of 15 bytes", from version 2 on with a loop byte behind each. Of any bytes.
+// rows of 15 bytes", from version 2 on with a loop byte behind each, and from version 3 on with a width behind that. Of any
+// bytes.
 use crate::model::ActivityRow;
 use crate::model::Sizes;
 use crate::model::Thread;
@@ -9,7 +10,7 @@ ghost use mathlib.Core.Path.{_≡_};
 ghost use Prim.Native.Nat.{_+_, _≤_};
 ghost use lib.ListN.{length};
 ghost use Rattle.schedule.specs.Fields.{field};
-ghost use Rattle.schedule.specs.Model.{page, modelLength, threadRow, activityRow};
+ghost use Rattle.schedule.specs.Model.{page, modelLength, threadRow, activityRow, widthAt};
 ghost use Rattle.records.specs.Rows.{sizesOf, threadRowOf, threadFields, activityRowOf, activityFields};
 
 // The version byte.
@@ -72,17 +73,19 @@ fn thread_at(version: u8, j: u8) -> usize
 // Activity row a, behind the rows of that many threads.
 fn activity_at(version: u8, threads: u8, a: u8) -> usize
     ensures { λ r. ⌜ r ≡ activityRow version threads a ⌝ }
-    ensures most { λ r. ⌜ r ≤ 6641 ⌝ }
+    ensures most { λ r. ⌜ r ≤ 6896 ⌝ }
 {
     let first = thread_at(version, threads);
     if version == 1 {
         first + 15 * (a as usize)
-    } else {
+    } else if version == 2 {
         first + 16 * (a as usize)
+    } else {
+        first + 17 * (a as usize)
     }
 }
 
-// "Length 10 + 10n + 15m", and 11 + 10n + 16m: where one more activity row would begin.
+// "Length 10 + 10n + 15m", 11 + 10n + 16m, and 11 + 10n + 17m: where one more activity row would begin.
 pub(crate) fn formula(s: &[u8], one: Sizes) -> u32
     ensures { λ r. ⌜ r ≡ modelLength (field (now (s .entry)) 4 1) (one .threads) (one .activities) ⌝ }
 {
@@ -130,14 +133,37 @@ pub(crate) fn thread_row(s: &[u8], j: u8) -> ThreadRow
 // Where activity row a stands.
 pub(crate) fn activity_place(s: &[u8], a: u8) -> usize
     ensures { λ r. ⌜ r ≡ activityRow (field (now (s .entry)) 4 1) (page (now (s .entry)) .plain .threads) a ⌝ }
-    ensures most { λ r. ⌜ r ≤ 6641 ⌝ }
+    ensures most { λ r. ⌜ r ≤ 6896 ⌝ }
 {
     activity_at(version(s), threads(s), a)
 }
 
-// An activity row that is all there, read at once, without its loop byte.
+// The width of an activity row that stands at a position: "older models have width 1".
+fn width_at(s: &[u8], at: usize) -> u8
+    requires { ⌜ at ≤ 6896 ⌝ }
+    ensures { λ r. ⌜ r ≡ widthAt (now (s .entry)) at ⌝ }
+{
+    let version = version(s);
+    if version == 1 {
+        1
+    } else if version == 2 {
+        1
+    } else {
+        fields::byte(s, at + 16)
+    }
+}
+
+// Of activity row a.
+pub(crate) fn width(s: &[u8], a: u8) -> u8
+    ensures { λ r. ⌜ r ≡ page (now (s .entry)) .plain .width a ⌝ }
+{
+    width_at(s, activity_place(s, a))
+}
+
+// An activity row whose first 15 bytes are all there, read at once, without its loop byte.
 pub(crate) fn activity_whole(s: &[u8], at: usize) -> ActivityRow
     requires { ⌜ at + 15 ≤ length (now s) ⌝ }
+    requires most { ⌜ at ≤ 6896 ⌝ }
     ensures { λ r. ⌜ r ≡ activityFields (now (s .entry)) at ⌝ }
 {
     let owner = s[at];
@@ -148,6 +174,7 @@ pub(crate) fn activity_whole(s: &[u8], at: usize) -> ActivityRow
         delay: fields::paired(s[at + 5], s[at + 6]),
         temporal_mask: fields::joined(s[at + 7], s[at + 8], s[at + 9], s[at + 10]),
         data_mask: fields::joined(s[at + 11], s[at + 12], s[at + 13], s[at + 14]),
+        width: width_at(s, at),
     }
 }
 
@@ -167,6 +194,7 @@ pub(crate) fn activity_row(s: &[u8], a: u8) -> ActivityRow
         delay: fields::be16(s, at + 5),
         temporal_mask: fields::be32(s, at + 7),
         data_mask: fields::be32(s, at + 11),
+        width: width_at(s, at),
     }
 }
 

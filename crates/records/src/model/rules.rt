@@ -1,5 +1,5 @@
-// The form rules of the model record, "in list order": 1 to 4 and 51, which name no row, then 5, 52, 6, 53 and 7 over the rows
-// of the page.
+// The form rules of the model record, "in list order": 1 to 4 and 51, which name no row, then 5, 52, 6, 53, 57 and 7 over the
+// rows of the page.
 use crate::Pass;
 use crate::form;
 use crate::form::Names;
@@ -14,6 +14,7 @@ use schedule::FormRefusal;
 use schedule::RowRule;
 ghost use mathlib.Core.Path.{_≡_};
 ghost use Rattle.schedule.specs.Rule.{break, firstBreak};
+ghost use Rattle.schedule.specs.Records.{within};
 ghost use Rattle.schedule.specs.Model.{page, headRules, rowRule, rowRules};
 ghost use Rattle.records.specs.Rows.{limitsHold, roundsHold, threadHolds, periodHolds, activityHolds, loopHolds, masksHold};
 ghost use Rattle.records.specs.Reads.{rowAnswer, rowReadNumbers, passNumbers};
@@ -22,7 +23,7 @@ ghost use Rattle.records.specs.RowRules.{rowAt};
 // ---- rules 1 to 4 and 51
 
 // The newest version of a model.
-const NEWEST: u8 = 2;
+const NEWEST: u8 = 3;
 
 // "3 c, n, m or H outside its limits"
 fn limits_hold(x: Sizes) -> bool
@@ -82,7 +83,7 @@ pub(crate) fn head(s: &[u8]) -> Pass
     }
 }
 
-// ---- rules 5, 52, 6, 53 and 7, over the rows
+// ---- rules 5, 52, 6, 53, 57 and 7, over the rows
 
 // "a least above its most, or least period 0 with most above 0"
 fn thread_holds(row: ThreadRow) -> bool
@@ -139,6 +140,13 @@ fn loop_holds(q: u8, activities: u8) -> bool
     }
 }
 
+// "for a width of 0 or above c"
+fn width_holds(width: u8, cores: u8) -> bool
+    ensures { λ r. ⌜ r ≡ within 1 cores width ⌝ }
+{
+    form::within(1, cores as u16, width as u16)
+}
+
 // "a bit at or above its own number in either mask"
 fn masks_hold(row: ActivityRow, number: u8) -> bool
     ensures { λ r. ⌜ r ≡ masksHold number row ⌝ }
@@ -159,6 +167,7 @@ fn rows_of(rule: RowRule, s: &[u8]) -> u8
         RowRule::Period => one.threads,
         RowRule::Activity => one.activities,
         RowRule::Loop => one.activities,
+        RowRule::Width => one.activities,
         RowRule::Masks => one.activities,
     }
 }
@@ -188,6 +197,11 @@ fn read_row(rule: RowRule, s: &[u8], number: u8) -> RowRead
             let q = page::loop_byte(s, number);
             let one = page::counts(s);
             rows::answer(loop_holds(q, one.activities), Row::Loop(q), why, a)
+        }
+        RowRule::Width => {
+            let width = page::width(s, number);
+            let one = page::counts(s);
+            rows::answer(width_holds(width, one.cores), Row::Width(width), why, a)
         }
         RowRule::Masks => {
             let row = page::activity_row(s, number);
@@ -221,6 +235,7 @@ pub(crate) fn row_rules(s: &[u8]) -> Pass
         RowRule::Period,
         RowRule::Activity,
         RowRule::Loop,
+        RowRule::Width,
         RowRule::Masks,
     ];
     let mut k: usize = 0;

@@ -3,7 +3,8 @@
 use mathlib.Core.Path.{ap}
 use Rattle.records.specs.declared.model.Sizes.{Sizes}
 use Rattle.records.specs.Rows.{sizesOf}
-use Rattle.records.proofs.RowTests.{thread-answered, period-answered, activity-answered, loop-answered, masks-answered}
+use Rattle.records.proofs.RowTests.{thread-answered, period-answered, activity-answered, loop-answered, width-answered}
+use Rattle.records.proofs.RowTests.{masks-answered}
 use borrow.Author.Needs.{needs}
 use Rattle.records.proofs.model.rules.read_row.Statement.{statement}
 use Rattle.records.proofs.model.rules.read_row.Tie as tie
@@ -68,14 +69,29 @@ answer-requires-4 c κs = search needs
 enum-told-5 : tie.Need-enum-told-5
 enum-told-5 c = search needs
 
+width-requires : tie.Need-width-requires
+width-requires c κs = search needs
+
+counts-requires-3 : tie.Need-counts-requires-3
+counts-requires-3 c κs = search needs
+
+width-holds-requires : tie.Need-width-holds-requires
+width-holds-requires c κs = search needs
+
+answer-requires-5 : tie.Need-answer-requires-5
+answer-requires-5 c κs = search needs
+
+enum-told-6 : tie.Need-enum-told-6
+enum-told-6 c = search needs
+
 activity-row-requires-2 : tie.Need-activity-row-requires-2
 activity-row-requires-2 c κs = search needs
 
 masks-hold-requires : tie.Need-masks-hold-requires
 masks-hold-requires c κs = search needs
 
-answer-requires-5 : tie.Need-answer-requires-5
-answer-requires-5 c κs = search needs
+answer-requires-6 : tie.Need-answer-requires-6
+answer-requires-6 c κs = search needs
 
 returns : tie.Need-returns
 returns c =
@@ -110,11 +126,20 @@ returns-4 c =
     (rw (c3 .before .enum-told4 .given .1) at (c .answer4 .ensures)))
 
 returns-5 : tie.Need-returns-5
+unfolding sizesOf
 returns-5 c =
+    let c3 = c .before .before .before in
+    rw (c3 .before .enum-told5 .given .1)
+    (width-answered _ _ _ _ _ _ (c3 .width .ensures)
+    (ap (λ (y : Sizes). y .cores) (c .before .before .counts3 .ensures)) (c .before .width-holds .ensures)
+    (rw (c3 .before .enum-told5 .given .1) at (c .answer5 .ensures)))
+
+returns-6 : tie.Need-returns-6
+returns-6 c =
     let c2 = c .before .before in
-    rw (c2 .before .enum-told5 .given .1)
+    rw (c2 .before .enum-told6 .given .1)
     (masks-answered _ _ _ _ _ (c2 .activity-row2 .ensures) (c .before .masks-hold .ensures)
-    (rw (c2 .before .enum-told5 .given .1) at (c .answer5 .ensures)))
+    (rw (c2 .before .enum-told6 .given .1) at (c .answer6 .ensures)))
 
 pub read-row-spec : {M : Type 1} → statement M
 read-row-spec =
@@ -140,11 +165,17 @@ read-row-spec =
     loop-holds-requires
     answer-requires-4
     enum-told-5
+    width-requires
+    counts-requires-3
+    width-holds-requires
+    answer-requires-5
+    enum-told-6
     activity-row-requires-2
     masks-hold-requires
-    answer-requires-5
+    answer-requires-6
     returns
     returns-2
     returns-3
     returns-4
-    returns-5)
+    returns-5
+    returns-6)

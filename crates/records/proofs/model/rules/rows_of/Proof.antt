@@ -26,6 +26,9 @@ enum-told-4 c = search needs
 enum-told-5 : tie.Need-enum-told-5
 enum-told-5 c = search needs
 
+enum-told-6 : tie.Need-enum-told-6
+enum-told-6 c = search needs
+
 returns : tie.Need-returns
 unfolding form-rules sizesOf
 returns c = rw (c .enum-told .given .1) (ap (λ (y : Sizes). y .threads) (c .before .before .counts .ensures))
@@ -46,6 +49,10 @@ returns-5 : tie.Need-returns-5
 unfolding form-rules sizesOf
 returns-5 c = rw (c .enum-told5 .given .1) (ap (λ (y : Sizes). y .activities) (c .before .before .counts .ensures))
 
+returns-6 : tie.Need-returns-6
+unfolding form-rules sizesOf
+returns-6 c = rw (c .enum-told6 .given .1) (ap (λ (y : Sizes). y .activities) (c .before .before .counts .ensures))
+
 pub rows-of-spec : {M : Type 1} → statement M
 rows-of-spec =
     tie.close
@@ -56,8 +63,10 @@ rows-of-spec =
     enum-told-3
     enum-told-4
     enum-told-5
+    enum-told-6
     returns
     returns-2
     returns-3
     returns-4
-    returns-5)
+    returns-5
+    returns-6)
