@@ -1,3 +1,4 @@
 pub mod TableLaws
 pub mod CountLaws
+pub mod LoadLaws
 pub mod RankLaws

@@ -8,7 +8,7 @@ use mathlib.Core.List.{List}
 use mathlib.Core.Path.{_≡_, refl, sym, ap, _∙_}
 use lib.Bits.{bitAnd, and-le-r}
 use lib.Dec.{ltb}
-use lib.ListN.{length, getD, set, replicate, length-set, List·getD-eq-default}
+use lib.ListN.{length, getD, set, replicate, length-replicate, length-set, List·getD-eq-default}
 use lib.Pow.{pow-mono}
 use lib.Seq.{ext-getD, getD-set-other}
 use native.Mathlib.Nat.{lt-of-le-of-lt, lt-of-lt-of-le}
@@ -73,16 +73,25 @@ by-ext m f g h =
 
 -- ---- a table that is filled entry by entry
 
--- the first n entries are f's, the others 0
-pub record Filled (n : ℕ) (f : ℕ → ℕ) (l : List ℕ) : Type 0 where
-  pub sized : length l ≡ 32
+-- of a list of so many entries the first n are f's, the others 0
+pub record FilledTo (size n : ℕ) (f : ℕ → ℕ) (l : List ℕ) : Type 0 where
+  pub sized : length l ≡ size
   pub filled : (a : ℕ) → a < n → getD l a 0 ≡ f a
   pub beyond : (a : ℕ) → n ≤ a → getD l a 0 ≡ 0
 
-pub filled-none : (f : ℕ → ℕ) → Filled 0 f (replicate 32 0)
-filled-none f = record { sized = refl; filled = λ a k. absurd (omega arith); beyond = λ a k. zeros-at 32 a }
+-- of a table by activity
+abbrev pub Filled : ℕ → (ℕ → ℕ) → List ℕ → Type 0
+Filled n f l = FilledTo 32 n f l
 
-pub filled-next : (f : ℕ → ℕ) (a v : ℕ) (l : List ℕ) → a < 32 → Filled a f l → v ≡ f a → Filled (a + 1) f (set l a v)
+pub filled-none : {size : ℕ} (f : ℕ → ℕ) → FilledTo size 0 f (replicate size 0)
+filled-none {size} f = record {
+  sized = length-replicate size 0;
+  filled = λ a k. absurd (omega arith);
+  beyond = λ a k. zeros-at size a;
+}
+
+pub filled-next : {size : ℕ} (f : ℕ → ℕ) (a v : ℕ) (l : List ℕ) → a < size → FilledTo size a f l → v ≡ f a
+    → FilledTo size (a + 1) f (set l a v)
 filled-next f a v l k h e = record {
   sized = length-set l a v ∙ h .sized;
   filled = table-next l a v f (omega (arith, h .sized)) e (h .filled);

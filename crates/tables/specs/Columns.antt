@@ -30,6 +30,7 @@ abbrev pub entryOf : Column → List ℕ → List ℕ → ℕ → ℕ
 entryOf Column.Delay s r a = model s .delay a
 entryOf Column.Temporal s r a = amongActivities (model s) (λ b. temporally (model s) b a)
 entryOf Column.ByData s r a = amongActivities (model s) (λ b. byData (model s) b a)
+entryOf Column.Width s r a = model s .width a
 entryOf Column.Priority s r a = priorityOf (model s) a
 entryOf Column.ChosenRelease s r a = choice r .release (model s .thread a)
 entryOf Column.ChosenPeriod s r a = choice r .period (model s .thread a)

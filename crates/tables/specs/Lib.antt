@@ -1,4 +1,5 @@
 pub mod Columns
 pub mod Counts
+pub mod Loads
 pub mod Ranking
 pub mod Releases

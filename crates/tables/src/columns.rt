@@ -15,6 +15,7 @@ pub enum Column {
     Delay,
     Temporal,
     ByData,
+    Width,
     Priority,
     // a choice's, the first two by the activity's thread
     ChosenRelease,
@@ -63,6 +64,7 @@ fn entry(which: Column, s: &[u8], second: &[u8], a: Activity) -> u32
         Column::Delay => wide(records::model::activity_row(s, a).delay),
         Column::Temporal => among(s, records::model::activity_row(s, a).temporal_mask),
         Column::ByData => among(s, records::model::activity_row(s, a).data_mask),
+        Column::Width => records::model::activity_row(s, a).width as u32,
         Column::Priority => wide(records::model::thread_row(s, owner(s, a)).priority),
         Column::ChosenRelease => wide(records::choice::thread_row(second, owner(s, a)).release),
         Column::ChosenPeriod => wide(records::choice::thread_row(second, owner(s, a)).period),

@@ -1,25 +1,44 @@
-// "A pass answers usage (all ones), c times H, makespan".
+// "A pass answers usage (all ones), c times H, makespan": usage "in core ticks" (U7 of 02).
+use crate::loads;
+use crate::loads::Widths;
 use numbers::larger;
 use numbers::less;
 use numbers::smaller;
 use records::model::Activity;
 use schedule::Figures;
 ghost use mathlib.Core.Path.{_≡_};
-ghost use Rattle.schedule.specs.Bounded.{ones, total, greatest, least};
+ghost use Rattle.schedule.specs.Bounded.{total, greatest, least};
 ghost use Rattle.schedule.specs.Model.{model};
 ghost use Rattle.schedule.specs.Plan.{plan, wordIn};
 ghost use Rattle.schedule.specs.Answers.{figures};
 ghost use Rattle.schedule.specs.Numbers.{figureNumbers};
 ghost use Rattle.tables.specs.Releases.{releasesOf};
+ghost use Rattle.tables.specs.Loads.{loadFrom};
 
-// All ones, counted from the words of a grid.
-fn usage(grid: &[u8], horizon: u16) -> u32
-    ensures { λ x. ⌜ x ≡ total horizon (λ t. ones (wordIn (now (grid .entry)) t)) ⌝ }
+// The cores that a word's activities take, where those of the last word are known: most ticks have the word of the one before.
+fn load_after(last: u32, load: u32, word: u32, widths: Widths) -> u32
+    requires { ⌜ load ≡ loadFrom widths last ⌝ }
+    ensures { λ x. ⌜ x ≡ loadFrom widths word ⌝ }
+{
+    if word == last {
+        return load;
+    }
+    loads::load(widths, word)
+}
+
+// The core ticks, counted from the words of a grid.
+fn usage(grid: &[u8], horizon: u16, widths: Widths) -> u32
+    ensures { λ x. ⌜ x ≡ total horizon (λ t. loadFrom widths (wordIn (now (grid .entry)) t)) ⌝ }
 {
     let mut sum: u32 = 0;
+    let mut last: u32 = 0;
+    let mut load = loads::load(widths, last);
     let mut t: u16 = 0;
     while t < horizon {
-        sum += bits::ones(records::grid::word(grid, t as usize));
+        let word = records::grid::word(grid, t as usize);
+        load = load_after(last, load, word, widths);
+        sum += load;
+        last = word;
         t += 1;
     }
     sum
@@ -95,7 +114,7 @@ pub fn figures(s: &[u8], r: &[u8]) -> Figures
     let latest = latest_end(r, sizes.activities);
     let first = least_release(Second::Plan, r, sizes.threads);
     Figures {
-        usage: usage(records::plan::words(r), sizes.horizon),
+        usage: usage(records::plan::words(r), sizes.horizon, loads::widths_of(s)),
         capacity,
         makespan: less(latest, first),
     }

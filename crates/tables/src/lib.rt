@@ -6,4 +6,5 @@ pub type ByActivity = [u32; 32];
 pub mod columns;
 pub mod counts;
 pub mod figures;
+pub mod loads;
 pub mod ranking;

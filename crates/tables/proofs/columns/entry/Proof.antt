@@ -44,6 +44,15 @@ among-requires-2 c κs = search needs
 enum-told-4 : tie.Need-enum-told-4
 enum-told-4 c = search needs
 
+activity-row-requires-4 : tie.Need-activity-row-requires-4
+activity-row-requires-4 c κs = search needs
+
+cast-result : tie.Need-cast-result
+cast-result c = search needs
+
+enum-told-5 : tie.Need-enum-told-5
+enum-told-5 c = search needs
+
 owner-requires : tie.Need-owner-requires
 owner-requires c κs = search needs
 
@@ -53,8 +62,8 @@ thread-row-requires c κs = search needs
 wide-requires-2 : tie.Need-wide-requires-2
 wide-requires-2 c κs = search needs
 
-enum-told-5 : tie.Need-enum-told-5
-enum-told-5 c = search needs
+enum-told-6 : tie.Need-enum-told-6
+enum-told-6 c = search needs
 
 owner-requires-2 : tie.Need-owner-requires-2
 owner-requires-2 c κs = search needs
@@ -65,8 +74,8 @@ thread-row-requires-2 c κs = search needs
 wide-requires-3 : tie.Need-wide-requires-3
 wide-requires-3 c κs = search needs
 
-enum-told-6 : tie.Need-enum-told-6
-enum-told-6 c = search needs
+enum-told-7 : tie.Need-enum-told-7
+enum-told-7 c = search needs
 
 owner-requires-3 : tie.Need-owner-requires-3
 owner-requires-3 c κs = search needs
@@ -77,8 +86,8 @@ thread-row-requires-3 c κs = search needs
 wide-requires-4 : tie.Need-wide-requires-4
 wide-requires-4 c κs = search needs
 
-enum-told-7 : tie.Need-enum-told-7
-enum-told-7 c = search needs
+enum-told-8 : tie.Need-enum-told-8
+enum-told-8 c = search needs
 
 duration-requires : tie.Need-duration-requires
 duration-requires c κs = search needs
@@ -86,20 +95,20 @@ duration-requires c κs = search needs
 wide-requires-5 : tie.Need-wide-requires-5
 wide-requires-5 c κs = search needs
 
-enum-told-8 : tie.Need-enum-told-8
-enum-told-8 c = search needs
-
-activity-row-requires-4 : tie.Need-activity-row-requires-4
-activity-row-requires-4 c κs = search needs
-
-wide-requires-6 : tie.Need-wide-requires-6
-wide-requires-6 c κs = search needs
-
 enum-told-9 : tie.Need-enum-told-9
 enum-told-9 c = search needs
 
 activity-row-requires-5 : tie.Need-activity-row-requires-5
 activity-row-requires-5 c κs = search needs
+
+wide-requires-6 : tie.Need-wide-requires-6
+wide-requires-6 c κs = search needs
+
+enum-told-10 : tie.Need-enum-told-10
+enum-told-10 c = search needs
+
+activity-row-requires-6 : tie.Need-activity-row-requires-6
+activity-row-requires-6 c κs = search needs
 
 wide-requires-7 : tie.Need-wide-requires-7
 wide-requires-7 c κs = search needs
@@ -127,46 +136,50 @@ returns-3 c =
     ∙ ap (λ (r : ActivityRow). amongActivities (model (x .s .now)) (bit (r .«data_mask»))) (c .before .activity-row3 .ensures))
 
 returns-4 : tie.Need-returns-4
-unfolding threadRowOf
-returns-4 c =
-    let x = c .before .before .before .before .before .before .before .args in
-    rw (c .before .before .before .enum-told4 .given .1)
-    (c .wide2 .ensures
-    ∙ ap (λ (r : ThreadRow). r .priority) (c .before .thread-row .ensures)
-    ∙ ap (model (x .s .now) .priority) (c .before .before .owner .ensures))
+unfolding activityRowOf
+returns-4 c = rw (c .before .before .enum-told4 .given .1) (ap (λ (r : ActivityRow). r .width) (c .before .activity-row4 .ensures))
 
 returns-5 : tie.Need-returns-5
-unfolding timing
+unfolding threadRowOf
 returns-5 c =
     let x = c .before .before .before .before .before .before .before .args in
     rw (c .before .before .before .enum-told5 .given .1)
-    (c .wide3 .ensures
-    ∙ ap (λ (r : Timing). r .release) (c .before .thread-row2 .ensures)
-    ∙ ap (choice (x .second .now) .release) (c .before .before .owner2 .ensures))
+    (c .wide2 .ensures
+    ∙ ap (λ (r : ThreadRow). r .priority) (c .before .thread-row .ensures)
+    ∙ ap (model (x .s .now) .priority) (c .before .before .owner .ensures))
 
 returns-6 : tie.Need-returns-6
 unfolding timing
 returns-6 c =
     let x = c .before .before .before .before .before .before .before .args in
     rw (c .before .before .before .enum-told6 .given .1)
+    (c .wide3 .ensures
+    ∙ ap (λ (r : Timing). r .release) (c .before .thread-row2 .ensures)
+    ∙ ap (choice (x .second .now) .release) (c .before .before .owner2 .ensures))
+
+returns-7 : tie.Need-returns-7
+unfolding timing
+returns-7 c =
+    let x = c .before .before .before .before .before .before .before .args in
+    rw (c .before .before .before .enum-told7 .given .1)
     (c .wide4 .ensures
     ∙ ap (λ (r : Timing). r .period) (c .before .thread-row3 .ensures)
     ∙ ap (choice (x .second .now) .period) (c .before .before .owner3 .ensures))
 
-returns-7 : tie.Need-returns-7
-returns-7 c = rw (c .before .before .enum-told7 .given .1) (c .wide5 .ensures ∙ c .before .duration .ensures)
-
 returns-8 : tie.Need-returns-8
-unfolding spanOf
-returns-8 c =
-    rw (c .before .before .enum-told8 .given .1)
-    (c .wide6 .ensures ∙ ap (λ (r : Span). r .start) (c .before .activity-row4 .ensures))
+returns-8 c = rw (c .before .before .enum-told8 .given .1) (c .wide5 .ensures ∙ c .before .duration .ensures)
 
 returns-9 : tie.Need-returns-9
 unfolding spanOf
 returns-9 c =
     rw (c .before .before .enum-told9 .given .1)
-    (c .wide7 .ensures ∙ ap (λ (r : Span). r .end) (c .before .activity-row5 .ensures))
+    (c .wide6 .ensures ∙ ap (λ (r : Span). r .start) (c .before .activity-row5 .ensures))
+
+returns-10 : tie.Need-returns-10
+unfolding spanOf
+returns-10 c =
+    rw (c .before .before .enum-told10 .given .1)
+    (c .wide7 .ensures ∙ ap (λ (r : Span). r .end) (c .before .activity-row6 .ensures))
 
 pub entry-spec : {M : Type 1} → statement M
 entry-spec =
@@ -182,25 +195,28 @@ entry-spec =
     activity-row-requires-3
     among-requires-2
     enum-told-4
+    activity-row-requires-4
+    cast-result
+    enum-told-5
     owner-requires
     thread-row-requires
     wide-requires-2
-    enum-told-5
+    enum-told-6
     owner-requires-2
     thread-row-requires-2
     wide-requires-3
-    enum-told-6
+    enum-told-7
     owner-requires-3
     thread-row-requires-3
     wide-requires-4
-    enum-told-7
+    enum-told-8
     duration-requires
     wide-requires-5
-    enum-told-8
-    activity-row-requires-4
-    wide-requires-6
     enum-told-9
     activity-row-requires-5
+    wide-requires-6
+    enum-told-10
+    activity-row-requires-6
     wide-requires-7
     returns
     returns-2
@@ -210,4 +226,5 @@ entry-spec =
     returns-6
     returns-7
     returns-8
-    returns-9)
+    returns-9
+    returns-10)

@@ -4,14 +4,20 @@ use native.Mathlib.Omega.{arith}
 use Prim.Native.Nat.{ℕ, _*_, _-_}
 use mathlib.Core.List.{List}
 use mathlib.Core.Path.{ap, ap₂, _∙_}
-use Rattle.schedule.specs.Bounded.{ones, total, greatest, least}
+use Rattle.schedule.specs.Bounded.{total, greatest, least}
+use Rattle.schedule.specs.Model.{model}
 use Rattle.schedule.specs.Plan.{plan, wordIn}
+use Rattle.schedule.specs.Checks.{load}
 use Rattle.schedule.specs.Answers.{figures}
 use Rattle.records.specs.declared.model.Sizes.{Sizes}
 use Rattle.records.specs.Rows.{sizesOf}
+use Rattle.laws.proofs.Ranges.{width-lt, word-lt}
 use Rattle.laws.proofs.Sums.{total-ext}
 use Rattle.laws.proofs.PlanBytes.{word-behind}
+use Rattle.tables.specs.declared.loads.Widths.{Widths}
+use Rattle.tables.specs.Loads.{widthsOf, loadFrom}
 use Rattle.tables.proofs.CountLaws.{product-fits}
+use Rattle.tables.proofs.LoadLaws.{load-is}
 use borrow.Author.Needs.{needs}
 use Rattle.tables.proofs.figures.figures.Statement.{statement}
 use Rattle.tables.proofs.figures.figures.Tie as tie
@@ -38,6 +44,9 @@ least-release-requires c κs = search needs
 words-requires : tie.Need-words-requires
 words-requires c κs = search needs
 
+widths-of-requires : tie.Need-widths-of-requires
+widths-of-requires c κs = search needs
+
 usage-requires : tie.Need-usage-requires
 usage-requires c κs = search needs
 
@@ -47,19 +56,24 @@ less-requires c κs = search needs
 returns : tie.Need-returns
 unfolding figures sizesOf
 returns c =
-    let c4 = c .before .before .before .before in
-    let c7 = c4 .before .before .before in
-    let r = c7 .before .before .before .args .r .now in
-    let p = plan r in
-    let e = c7 .counts .ensures in
+    let c5 = c .before .before .before .before .before in
+    let c8 = c5 .before .before .before in
+    let x = c8 .before .before .before .args in
+    let m = model (x .s .now) in
+    let p = plan (x .r .now) in
+    let e = c8 .counts .ensures in
+    let narrow = width-lt (x .s .now) (λ i _. c8 .before .before .shared-slice-known .given i .fits) in
+    let words = word-lt (x .r .now) (λ i _. c8 .before .shared-slice-known2 .given i .fits) in
     let used =
     c .before .usage .ensures
-    ∙ ap (λ (g : List ℕ). total (c7 .counts .result .horizon) (λ t. ones (wordIn g t))) (c .before .before .words .ensures)
-    ∙ total-ext _ _ (λ t. ones (p .word t)) (λ t _. ap ones (word-behind r t))
-    ∙ ap (λ (y : Sizes). total (y .horizon) (λ t. ones (p .word t))) e in
+    ∙ ap₂ (λ (g : List ℕ) (w : Widths). total (c8 .counts .result .horizon) (λ t. loadFrom w (wordIn g t)))
+    (c .before .before .before .words .ensures) (c .before .before .widths-of .ensures)
+    ∙ total-ext _ _ (λ t. load m p t)
+    (λ t _. ap (loadFrom (widthsOf m)) (word-behind (x .r .now) t) ∙ load-is m narrow (p .word t) (words t))
+    ∙ ap (λ (y : Sizes). total (y .horizon) (λ t. load m p t)) e in
     let room = ap (λ (y : Sizes). y .cores * y .horizon) e in
-    let last = c4 .latest-end .ensures ∙ ap (λ (y : Sizes). greatest (y .activities) (p .end)) e in
-    let first = c .before .before .before .least-release .ensures ∙ ap (λ (y : Sizes). least (y .threads) (p .release)) e in
+    let last = c5 .latest-end .ensures ∙ ap (λ (y : Sizes). greatest (y .activities) (p .end)) e in
+    let first = c .before .before .before .before .least-release .ensures ∙ ap (λ (y : Sizes). least (y .threads) (p .release)) e in
     let span = c .less .ensures ∙ ap₂ _-_ last first in
     λ i. record { usage = used i; capacity = room i; makespan = span i }
 
@@ -74,6 +88,7 @@ figures-spec =
     latest-end-requires
     least-release-requires
     words-requires
+    widths-of-requires
     usage-requires
     less-requires
     returns)

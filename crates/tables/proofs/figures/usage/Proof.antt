@@ -1,23 +1,29 @@
--- `tables::figures::usage` meets its contract: the sum is that of the ticks passed.
+-- `tables::figures::usage` meets its contract: the sum so far, and the cores of the last word.
 -- Assumes nothing.
 use Prim.Native.Nat.{_+_, _*_, _≤_, _-_}
 use native.Mathlib.Omega.{arith}
 use mathlib.Core.Path.{_≡_, sym, ap, ap₂, _∙_}
 use borrow.Author.Needs.{needs}
-use Rattle.schedule.specs.Bounded.{ones, total}
+use Rattle.schedule.specs.Bounded.{total}
 use Rattle.schedule.specs.Plan.{wordIn}
-use Rattle.laws.proofs.Steps.{total-next, total-start, ones-few}
+use Rattle.laws.proofs.Steps.{total-next, total-start}
+use Rattle.tables.specs.Loads.{loadFrom}
+use Rattle.tables.proofs.LoadLaws.{load-bound}
 use Rattle.tables.proofs.figures.usage.Statement.{statement}
 use Rattle.tables.proofs.figures.usage.Tie as tie
 
 abbrev Inv-loop : tie.InvT-loop
-Inv-loop grid horizon sum₀ t₀ sum t = (t ≤ horizon) × (sum ≤ 32 * t) × (sum ≡ total t (λ u. ones (wordIn grid u)))
+Inv-loop grid horizon widths sum₀ last₀ load₀ t₀ sum last load t =
+    (t ≤ horizon) × (sum ≤ 32768 * t) × (sum ≡ total t (λ u. loadFrom widths (wordIn grid u))) × (load ≡ loadFrom widths last)
 
 abbrev μ-loop : tie.MeasureT-loop
-μ-loop grid horizon sum₀ t₀ sum t = horizon - t
+μ-loop grid horizon widths sum₀ last₀ load₀ t₀ sum last load t = horizon - t
+
+load-requires : tie.Need-load-requires Inv-loop μ-loop
+load-requires c κs = search needs
 
 loop-holds : tie.Need-loop-holds Inv-loop μ-loop
-loop-holds c = (omega arith, omega arith, sym (total-start _))
+loop-holds c = (omega arith, omega arith, sym (total-start _), c .load .ensures)
 
 cast-word : tie.Need-cast-word Inv-loop μ-loop
 cast-word c = search needs
@@ -25,11 +31,14 @@ cast-word c = search needs
 word-requires : tie.Need-word-requires Inv-loop μ-loop
 word-requires c κs = search needs
 
-ones-requires : tie.Need-ones-requires Inv-loop μ-loop
-ones-requires c κs = search needs
+load-after-requires : tie.Need-load-after-requires Inv-loop μ-loop
+load-after-requires c κs = c .before .before .loop .inv .3
 
 add-sum : tie.Need-add-sum Inv-loop μ-loop
-add-sum c = omega (arith, c .ones .ensures, ones-few (c .before .word .result), c .before .before .before .loop .inv .1)
+add-sum c =
+    let c3 = c .before .before .before in
+    let x = c3 .before .before .before .args in
+    omega (arith, c .load-after .ensures, load-bound (x .widths) (c .before .word .result), c3 .loop .inv .1)
 
 add-t : tie.Need-add-t Inv-loop μ-loop
 add-t c = omega arith
@@ -41,18 +50,19 @@ loop-again : tie.Need-loop-again Inv-loop μ-loop
 loop-again c =
     let c3 = c .before .before .before in
     let l = c3 .loop in
-    let grid = c3 .before .before .args .grid .now in (
+    let x = c3 .before .before .before .args in (
       omega arith,
-      omega (arith, c .ones .ensures, ones-few (c .before .word .result), l .inv .1),
-      ap₂ _+_ (l .inv .2) (c .ones .ensures ∙ ap ones (c .before .word .ensures))
-          ∙ sym (total-next (l .t) (λ u. ones (wordIn grid u))),
+      omega (arith, c .load-after .ensures, load-bound (x .widths) (c .before .word .result), l .inv .1),
+      ap₂ _+_ (l .inv .2) (c .load-after .ensures ∙ ap (loadFrom (x .widths)) (c .before .word .ensures))
+          ∙ sym (total-next (l .t) (λ u. loadFrom (x .widths) (wordIn (x .grid .now) u))),
+      c .load-after .ensures,
     )
 
 returns : tie.Need-returns Inv-loop μ-loop
 returns c =
-    let x = c .before .before .before .args in
+    let x = c .before .before .before .before .args in
     let whole : c .before .loop .t ≡ x .horizon = omega arith in
-    c .before .loop .inv .2 ∙ ap (λ k. total k (λ u. ones (wordIn (x .grid .now) u))) whole
+    c .before .loop .inv .2 ∙ ap (λ k. total k (λ u. loadFrom (x .widths) (wordIn (x .grid .now) u))) whole
 
 pub usage-spec : {M : Type 1} → statement M
 usage-spec =
@@ -60,10 +70,11 @@ usage-spec =
     (tie.spec
     Inv-loop
     μ-loop
+    load-requires
     loop-holds
     cast-word
     word-requires
-    ones-requires
+    load-after-requires
     add-sum
     add-t
     loop-less
