@@ -15,20 +15,21 @@ use lib.ListN.{length, getD, set, replicate, getD-replicate, length-set}
 use lib.Seq.{getD-set-same, getD-set-other}
 use lib.Pow.{pow-mono}
 use borrow.Author.Tests.{lt-ltb}
-use Rattle.schedule.specs.Bounded.{all, bit, lowest, wordOf, ones, _⇒_}
+use Rattle.schedule.specs.Bounded.{all, bit, lowest, wordOf, _⇒_}
 use Rattle.schedule.specs.Model.{Model, temporally, byData}
-use Rattle.schedule.specs.Machine.{State, owes, endedBy, ready, before, rank, selected, wordAt, initial, stateAt, machineWord}
+use Rattle.schedule.specs.Machine.{State, owes, endedBy, ready, selected, wordAt, initial, stateAt, machineWord}
 use Rattle.laws.proofs.Tests.{T-and, T-not, T-all, T-implies, T-eqb, T-ltb}
-use Rattle.laws.proofs.Counting.{decT, T-ext, T-true, T-false, count-ext, all-ext}
+use Rattle.laws.proofs.Counting.{decT, T-ext, T-true, T-false, all-ext}
 use Rattle.laws.proofs.MachineLaws.{owes-next, end-next, getD-table}
-use Rattle.laws.proofs.Words.{wordOf-ext, wordOf-lt, bit-wordOf, bit-high, ones-count}
+use Rattle.laws.proofs.Words.{wordOf-ext, wordOf-lt, bit-wordOf}
 use Rattle.laws.proofs.WordLaws.{bit-and, bit-not, bit-zero, zero-bits}
 use Rattle.bits.proofs.Apart.{lowest-lt, lowest-set, gone, kept, still-within, none-taken}
 use Rattle.schedule.specs.Bounded.{withoutBit}
-use Rattle.machine.specs.Masks.{covered, endedFrom, endedMask, readyFrom, selectedFrom, readyMask, tickWord}
+use Rattle.machine.specs.Masks.{covered, endedFrom, endedMask, readyFrom, walkedFrom, readyMask, tickWord}
 use Rattle.machine.specs.Masks.{delays, Tabled, Keeps, Stepped}
 use Rattle.tables.specs.Columns.{TableOf, amongActivities}
-use Rattle.tables.proofs.TableLaws.{among-lt, bit-among, among-all}
+use Rattle.tables.proofs.TableLaws.{among-lt, bit-among}
+use Rattle.machine.proofs.WalkLaws.{walk-is}
 
 -- every bit of x is a bit of y, bit by bit
 pub covered-says : (x y : ℕ) → x < 2 ^ 32 → y < 2 ^ 32 → T (covered x y) ↔ ((b : ℕ) → b < 32 → T (bit x b) → T (bit y b))
@@ -127,43 +128,14 @@ module _ (m : Model) (release : ℕ → ℕ) (tables : List (List ℕ)) (tabled 
   ready-mask-is s owed ends none t keeps held =
       wordOf-ext (m .activities) _ _ (ready-is s owed ends none t keeps held)
 
-  -- the ready that rank before a, counted
-  rank-is : (rdy : ℕ → Bool) (a : ℕ)
-      → ones (bitAnd (wordOf (m .activities) rdy) (amongActivities m (λ b. before m b a))) ≡ rank m rdy a
-  unfolding rank
-  rank-is rdy a =
-      ap (λ (w : ℕ). ones (bitAnd (wordOf n rdy) w)) (among-all m (λ b. before m b a) (tabled .few))
-      ∙ ones-count both n (tabled .few) clear
-      ∙ count-ext n (bit both) (λ b. rdy b && before m b a) (λ b l.
-      bit-and (wordOf n rdy) (wordOf n (λ b. before m b a)) b
-      ∙ ap₂ _&&_ (bit-wordOf n rdy b l) (bit-wordOf n (λ b. before m b a) b l))
-    where
-      n : ℕ
-      n = m .activities
-
-      both : ℕ
-      both = bitAnd (wordOf n rdy) (wordOf n (λ b. before m b a))
-
-      clear : (b : ℕ) → b < 32 → n ≤ b → ¬ T (bit both b)
-      clear b l h = bit-high both n b (lt-of-le-of-lt (and-le-l (wordOf n rdy) _) (wordOf-lt n rdy)) h
-
-  -- the selected mask holds the selected
-  selected-is : (rdy : ℕ → Bool) (a : ℕ) → a < m .activities
-      → selectedFrom (m .cores) (wordOf (m .activities) rdy) tables a ≡ selected m rdy a
-  unfolding selectedFrom selected
-  selected-is rdy a l =
-      ap₂ _&&_ (bit-wordOf (m .activities) rdy a l)
-      (ap (λ (x : ℕ). ltb x (m .cores))
-      (ap (λ (x : ℕ). ones (bitAnd (wordOf (m .activities) rdy) x)) (tabled .before-masks a l) ∙ rank-is rdy a))
-
   -- a tick on whole words is the machine's
   pub tick-is : (s : State) (owed ends : List ℕ) (t : ℕ) → Keeps m s owed ends
       → tickWord (m .activities) (m .cores) tables owed ends t ≡ wordAt m release t s
-  unfolding tickWord wordAt
+  unfolding tickWord wordAt selected
   tick-is s owed ends t keeps =
-      ap (λ (w : ℕ). wordOf (m .activities) (selectedFrom (m .cores) w tables))
+      ap (λ (w : ℕ). walkedFrom (m .cores) w tables (m .activities) .word)
       (ready-mask-is s owed ends (replicate 32 0) t keeps (λ b l. getD-replicate 32 b 0 0 (omega (arith, tabled .few))))
-      ∙ wordOf-ext (m .activities) _ _ (selected-is (ready m release t s))
+      ∙ walk-is m release tables tabled (ready m release t s)
 
 -- ---- the tables from tick to tick
 

@@ -10,7 +10,7 @@ use mathlib.Core.Path.{_≡_, refl, sym, subst, ap, ap₂, _∙_}
 use lib.Dec.{T, eqb, leb, ltb}
 use lib.ListN.{getD, replicate}
 use borrow.Author.Tests.{lt-ltb, ne-eqb}
-use Rattle.schedule.specs.Bounded.{bit, lowest, wordOf}
+use Rattle.schedule.specs.Bounded.{bit, lowest}
 use Rattle.laws.proofs.Tests.{up-to}
 use Rattle.laws.proofs.Between.{between-leb, sooner-le}
 use Rattle.laws.proofs.Counting.{decT, T-true, T-false}
@@ -22,7 +22,7 @@ use Rattle.bits.proofs.Apart.{kept}
 use Rattle.ticks.specs.declared.Kept.{Kept}
 use Rattle.ticks.proofs.KeptLaws.{quiet-start, quiet-next, quiet-sooner, stands-unknown}
 use Rattle.machine.specs.Masks.{releases, delays, temporal, by-data, covered, endedFrom, endedMask, readyFrom}
-use Rattle.machine.specs.Masks.{selectedFrom, readyMask, tickWord, Stepped}
+use Rattle.machine.specs.Masks.{walkedFrom, readyMask, tickWord, Stepped}
 use Rattle.machine.proofs.MaskLaws.{nothing-less}
 use Rattle.machine.specs.Stretches.{Unchanged, Busy, Lasts}
 
@@ -37,7 +37,7 @@ module _ (n c : ℕ) (tables : List (List ℕ)) where
       ≡ tickWord n c tables owed′ ends′ t′
   unfolding tickWord readyMask endedMask readyFrom
   tick-ext owed ends owed′ ends′ t t′ owes released past over =
-      ap (λ (w : ℕ). wordOf n (selectedFrom c w tables))
+      ap (λ (w : ℕ). walkedFrom c w tables n .word)
       (wordOf-ext n _ _ (λ a l.
       ap₂ (λ (x : Bool) (y : Bool). x && y) (owes a l)
       (ap₂ (λ (x : Bool) (y : Bool). x && y) (released a l)

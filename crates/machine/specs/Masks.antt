@@ -1,16 +1,17 @@
--- The machine's tick on whole words, from tables: what has ended, what is ready, what is selected.
+-- The machine's tick on whole words, from tables: what has ended, what is ready, what the walk takes.
 -- Assumes nothing.
-use Prim.Native.Nat.{ℕ, _+_, _-_, _^_, _≤_, _<_}
+use Prim.Native.Nat.{ℕ, zero, suc, _+_, _-_, _^_, _≤_, _<_}
 use mathlib.Core.Bool.{Bool, _&&_, cond}
 use mathlib.Core.List.{List, []}
 use mathlib.Core.Path.{_≡_}
 use lib.Bits.{bitAnd}
-use lib.Dec.{eqb, leb, ltb}
+use lib.Dec.{T, eqb, leb, ltb}
 use lib.ListN.{length, getD, replicate}
-use Rattle.schedule.specs.Bounded.{bit, wordOf, ones}
+use Rattle.schedule.specs.Bounded.{bit, withBit, wordOf}
 use Rattle.schedule.specs.Model.{Model, temporally, byData}
 use Rattle.schedule.specs.Machine.{State, owes, endOf, before}
 use Rattle.tables.specs.Columns.{TableOf, amongActivities}
+use Rattle.machine.specs.declared.tick.Walk.{Walk}
 
 -- the tables by what they hold
 abbrev pub releases : List (List ℕ) → List ℕ
@@ -25,8 +26,11 @@ temporal tables = getD tables 2 []
 abbrev pub by-data : List (List ℕ) → List ℕ
 by-data tables = getD tables 3 []
 
-abbrev pub befores : List (List ℕ) → List ℕ
-befores tables = getD tables 4 []
+abbrev pub order : List (List ℕ) → List ℕ
+order tables = getD tables 4 []
+
+abbrev pub widths : List (List ℕ) → List ℕ
+widths tables = getD tables 5 []
 
 -- every bit of x is a bit of y
 unfoldable pub covered : ℕ → ℕ → Bool
@@ -47,10 +51,25 @@ readyFrom tables owed past over t a =
     && (leb (getD (releases tables) a 0) t
     && (covered (getD (temporal tables) a 0) past && covered (getD (by-data tables) a 0) over))
 
--- whether activity a is among the first c of the ready
-unfoldable pub selectedFrom : ℕ → ℕ → List (List ℕ) → ℕ → Bool
-selectedFrom c ready-mask tables a =
-    bit ready-mask a && ltb (ones (bitAnd ready-mask (getD (befores tables) a 0))) c
+-- the walk with activity a taken, if it is ready and its width still fits
+unfoldable pub taking : Walk → ℕ → List ℕ → ℕ → Walk
+taking walk ready-mask width a =
+    cond (bit ready-mask a && leb (getD width a 0) (walk .room))
+    (record { word = withBit (walk .word) a; room = walk .room - getD width a 0 })
+    walk
+
+-- the walk along the first k places of the ranking, with c cores
+unfoldable pub walkedFrom : ℕ → ℕ → List (List ℕ) → ℕ → Walk
+walkedFrom c ready-mask tables zero = record { word = 0; room = c }
+walkedFrom c ready-mask tables (suc k) =
+    taking (walkedFrom c ready-mask tables k) ready-mask (widths tables) (getD (order tables) k 0)
+
+-- A list that has the activities in rank order: each stands at one of its first places, as many as there are activities, and
+-- of two the one at the lower place ranks before the other. A number that is no activity's may stand anywhere.
+pub record Ranked (m : Model) (l : List ℕ) : Type 0 where
+  pub stands : (a : ℕ) → a < m .activities → (k : ℕ) × (k < m .activities) × (getD l k 0 ≡ a)
+  pub in-rank : (j k : ℕ) → j < k → k < m .activities → getD l j 0 < m .activities → getD l k 0 < m .activities
+      → T (before m (getD l j 0) (getD l k 0))
 
 -- Tables of what the machine needs of a model and the chosen releases.
 pub record Tabled (m : Model) (release : ℕ → ℕ) (tables : List (List ℕ)) : Type 0 where
@@ -59,7 +78,8 @@ pub record Tabled (m : Model) (release : ℕ → ℕ) (tables : List (List ℕ))
   pub delay-ticks : TableOf m (delays tables) (m .delay)
   pub temporal-masks : TableOf m (temporal tables) (λ a. amongActivities m (λ b. temporally m b a))
   pub data-masks : TableOf m (by-data tables) (λ a. amongActivities m (λ b. byData m b a))
-  pub before-masks : TableOf m (befores tables) (λ a. amongActivities m (λ b. before m b a))
+  pub rank-order : Ranked m (order tables)
+  pub width-cores : TableOf m (widths tables) (m .width)
 
 -- Tables that hold the machine's state.
 pub record Keeps (m : Model) (s : State) (owed ends : List ℕ) : Type 0 where
@@ -73,7 +93,7 @@ readyMask n tables none owed ends t =
 
 -- the word of tick t
 unfoldable pub tickWord : ℕ → ℕ → List (List ℕ) → List ℕ → List ℕ → ℕ → ℕ
-tickWord n c tables owed ends t = wordOf n (selectedFrom c (readyMask n tables (replicate 32 0) owed ends t) tables)
+tickWord n c tables owed ends t = walkedFrom c (readyMask n tables (replicate 32 0) owed ends t) tables n .word
 
 -- "Each owes one less, and one that now owes nothing ends at t + 1": the tables after tick t, from those before it
 pub record Stepped (n word t : ℕ) (owed ends owed′ ends′ : List ℕ) : Type 0 where

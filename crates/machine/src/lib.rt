@@ -11,7 +11,7 @@ ghost use mathlib.Core.Path.{_≡_};
 ghost use Prim.Native.Nat.{_≤_};
 ghost use Rattle.schedule.specs.Model.{model};
 ghost use Rattle.schedule.specs.Choice.{choice};
-ghost use Rattle.machine.specs.Masks.{Tabled};
+ghost use Rattle.machine.specs.Masks.{Ranked, Tabled};
 ghost use Rattle.records.specs.Reads.{passNumbers};
 ghost use Rattle.machine.specs.Played.{Finished, playedEnds, playedRefusal, playedGrid};
 
@@ -27,7 +27,25 @@ pub struct Played {
     pub judged: Pass,
 }
 
-// What the machine needs of a model and the chosen releases, by activity.
+// The activities in rank order: the place of each is how many rank before it. A place that none has holds 32, no activity.
+fn order(s: &[u8]) -> [u32; 32]
+    requires { ⌜ model (now s) .activities ≤ 32 ⌝ }
+    ensures { λ r. ⌜ Ranked (model (now (s .entry))) r ⌝ }
+{
+    let sizes = records::model::counts(s);
+    let n = sizes.activities as usize;
+    let befores = tables::ranking::masks(Order::Before, s);
+    let mut order = [32u32; 32];
+    let mut a = 0;
+    while a < n {
+        let place = bits::ones(befores[a]);
+        order[place as usize] = a as u32;
+        a += 1;
+    }
+    order
+}
+
+// What the machine needs of a model and the chosen releases, by activity; and the activities in rank order.
 fn tabulate(s: &[u8], q: &[u8]) -> Tables
     requires { ⌜ model (now s) .activities ≤ 32 ⌝ }
     ensures { λ r. ⌜ Tabled (model (now (s .entry))) (choice (now (q .entry)) .release) r ⌝ }
@@ -36,8 +54,9 @@ fn tabulate(s: &[u8], q: &[u8]) -> Tables
     let delays = tables::columns::table(Column::Delay, s, q);
     let temporal = tables::columns::table(Column::Temporal, s, q);
     let by_data = tables::columns::table(Column::ByData, s, q);
-    let befores = tables::ranking::masks(Order::Before, s);
-    [releases, delays, temporal, by_data, befores]
+    let widths = tables::columns::table(Column::Width, s, q);
+    let order = order(s);
+    [releases, delays, temporal, by_data, order, widths]
 }
 
 // "At the beginning t = 0 and each activity owes its chosen duration. .. Then t grows by one; stop at H." The words of the

@@ -7,10 +7,10 @@ ghost use Prim.Native.Nat.{_+_, _≤_, _<_};
 ghost use lib.Dec.{eqb};
 ghost use lib.ListN.{length};
 ghost use Rattle.schedule.specs.Bounded.{wordOf};
-ghost use Rattle.machine.specs.Masks.{covered, endedFrom, endedMask, readyFrom, selectedFrom, tickWord, Stepped};
+ghost use Rattle.machine.specs.Masks.{covered, endedFrom, endedMask, readyFrom, taking, walkedFrom, tickWord, Stepped};
 
 // What the machine needs of a model and the chosen releases, a table of each.
-pub(crate) type Tables = [[u32; 32]; 5];
+pub(crate) type Tables = [[u32; 32]; 6];
 
 pub(crate) const RELEASES: usize = 0;
 
@@ -20,7 +20,10 @@ const TEMPORAL: usize = 2;
 
 const BY_DATA: usize = 3;
 
-const BEFORES: usize = 4;
+// the activities in rank order
+const ORDER: usize = 4;
+
+const WIDTHS: usize = 5;
 
 // ---- what is ready
 
@@ -90,33 +93,43 @@ fn ready(n: usize, tables: &Tables, owed: &[u32; 32], past: u32, over: u32, t: u
     mask
 }
 
-// ---- what is selected
+// ---- what is taken
 
-// Activity a is ready, and fewer than c of the ready rank before it.
-fn selected(c: u32, ready: u32, tables: &Tables, a: usize) -> bool
-    requires { ⌜ a < 32 ⌝ }
-    ensures { λ r. ⌜ r ≡ selectedFrom c ready (now (tables .entry)) a ⌝ }
-{
-    if bits::has(ready, a as u32) {
-        bits::ones(ready & tables[BEFORES][a]) < c
-    } else {
-        false
-    }
+// How far the walk along the ranking has come: what it has taken, and how many cores are left.
+struct Walk {
+    word: u32,
+    room: u32,
 }
 
-// "The first c, or all if fewer, are the word's bits."
+// Takes activity a if it is ready and its width still fits.
+fn take(walk: Walk, ready: u32, widths: &[u32; 32], a: u32) -> Walk
+    ensures { λ r. ⌜ r ≡ taking walk ready (now (widths .entry)) a ⌝ }
+{
+    if bits::has(ready, a) {
+        let width = widths[a as usize];
+        if width <= walk.room {
+            return Walk {
+                word: bits::with(walk.word, a),
+                room: walk.room - width,
+            };
+        }
+    }
+    walk
+}
+
+// "walks the ready in rank order and takes each whose width still fits" (U7 of 02): the places of the ranking one after the
+// other, past one that does not fit too.
 fn select(n: usize, c: u32, ready: u32, tables: &Tables) -> u32
     requires { ⌜ n ≤ 32 ⌝ }
-    ensures { λ r. ⌜ r ≡ wordOf n (selectedFrom c ready (now (tables .entry))) ⌝ }
+    ensures { λ r. ⌜ r ≡ walkedFrom c ready (now (tables .entry)) n .word ⌝ }
 {
-    let mut mask: u32 = 0;
-    let mut a = 0;
-    while a < n {
-        let yes = selected(c, ready, tables, a);
-        mask = bits::mark(mask, a as u32, yes);
-        a += 1;
+    let mut walk = Walk { word: 0, room: c };
+    let mut k = 0;
+    while k < n {
+        walk = take(walk, ready, &tables[WIDTHS], tables[ORDER][k]);
+        k += 1;
     }
-    mask
+    walk.word
 }
 
 // The word of tick t. A data predecessor's delay plays no part.

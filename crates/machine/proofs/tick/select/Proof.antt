@@ -1,51 +1,58 @@
--- `machine::tick::select` meets its contract: the mask holds what is selected among the activities passed.
+-- `machine::tick::select` meets its contract: the walk along the places passed.
 -- Assumes nothing.
 use Prim.Native.Nat.{_≤_, _-_}
+use native.Mathlib.Numerals.{add-one}
 use native.Mathlib.Omega.{arith}
-use mathlib.Core.Path.{_≡_, sym, ap, _∙_}
+use mathlib.Core.Path.{_≡_, refl, ap, _∙_}
 use borrow.Author.Needs.{needs}
-use Rattle.schedule.specs.Bounded.{wordOf}
-use Rattle.laws.proofs.WordLaws.{mark-next, word-start}
-use Rattle.machine.specs.Masks.{selectedFrom}
+use Rattle.machine.specs.declared.tick.Walk.{Walk}
+use Rattle.machine.specs.Masks.{walkedFrom}
 use Rattle.machine.proofs.tick.select.Statement.{statement}
 use Rattle.machine.proofs.tick.select.Tie as tie
 
 abbrev Inv-loop : tie.InvT-loop
-Inv-loop n c ready tables mask₀ a₀ mask a = (a ≤ n) × (mask ≡ wordOf a (selectedFrom c ready tables))
+Inv-loop n c ready tables walk₀ k₀ walk k = (k ≤ n) × (walk ≡ walkedFrom c ready tables k)
 
 abbrev μ-loop : tie.MeasureT-loop
-μ-loop n c ready tables mask₀ a₀ mask a = n - a
+μ-loop n c ready tables walk₀ k₀ walk k = n - k
 
 loop-holds : tie.Need-loop-holds Inv-loop μ-loop
-loop-holds c = (omega arith, sym (word-start _))
+unfolding walkedFrom
+loop-holds c = (omega arith, refl)
 
-selected-requires : tie.Need-selected-requires Inv-loop μ-loop
-selected-requires c κs = omega arith
+index-1-take : tie.Need-index-1-take Inv-loop μ-loop
+index-1-take c = search needs
 
-cast-mark : tie.Need-cast-mark Inv-loop μ-loop
-cast-mark c = omega arith
+mul-take : tie.Need-mul-take Inv-loop μ-loop
+mul-take c = omega arith
 
-mark-requires : tie.Need-mark-requires Inv-loop μ-loop
-mark-requires c κs = search needs
+index-1-take-2 : tie.Need-index-1-take-2 Inv-loop μ-loop
+index-1-take-2 c = search needs
 
-add-a : tie.Need-add-a Inv-loop μ-loop
-add-a c = omega arith
+index-2-take : tie.Need-index-2-take Inv-loop μ-loop
+index-2-take c = omega arith
+
+take-requires : tie.Need-take-requires Inv-loop μ-loop
+take-requires c κs = search needs
+
+add-k : tie.Need-add-k Inv-loop μ-loop
+add-k c = omega arith
 
 loop-less : tie.Need-loop-less Inv-loop μ-loop
 loop-less c = omega arith
 
 loop-again : tie.Need-loop-again Inv-loop μ-loop
-loop-again c = (
-  omega arith,
-  rw (c .mark .ensures, c .before .before .before .loop .inv .1)
-      (mark-next (c .before .before .before .loop .a) _ (c .before .selected .result) (omega arith) (c .before .selected .ensures)),
-)
+unfolding walkedFrom
+loop-again c =
+    let l = c .before .before .before .before .loop in
+    (omega arith, rw (add-one (l .k), ← l .inv .1) (c .take .ensures))
 
 returns : tie.Need-returns Inv-loop μ-loop
 returns c =
     let x = c .before .before .args in
-    let whole : c .before .loop .a ≡ x .n = omega arith in
-    c .before .loop .inv .1 ∙ ap (λ k. wordOf k (selectedFrom (x .c) (x .ready) (x .tables .now))) whole
+    let l = c .before .loop in
+    let whole : l .k ≡ x .n = omega arith in
+    ap (λ (w : Walk). w .word) (l .inv .1) ∙ ap (λ k. walkedFrom (x .c) (x .ready) (x .tables .now) k .word) whole
 
 pub select-spec : {M : Type 1} → statement M
 select-spec =
@@ -54,10 +61,12 @@ select-spec =
     Inv-loop
     μ-loop
     loop-holds
-    selected-requires
-    cast-mark
-    mark-requires
-    add-a
+    index-1-take
+    mul-take
+    index-1-take-2
+    index-2-take
+    take-requires
+    add-k
     loop-less
     loop-again
     returns)

@@ -1,0 +1,111 @@
+-- `machine::order` meets its contract: each activity passed stands at its place.
+-- Assumes nothing.
+use Prim.Native.Nat.{_≤_, _-_}
+use native.Mathlib.Omega.{arith}
+use mathlib.Core.Path.{_≡_, subst, ap, _∙_}
+use borrow.Author.Needs.{needs}
+use Rattle.schedule.specs.Model.{model}
+use Rattle.records.specs.declared.model.Sizes.{Sizes}
+use Rattle.records.specs.Rows.{sizesOf}
+use Rattle.machine.proofs.OrderLaws.{place-lt, ones-place, Placed, placed-none, placed-next, placed-all}
+use Rattle.machine.proofs.order.Statement.{statement}
+use Rattle.machine.proofs.order.Tie as tie
+
+abbrev Inv-loop : tie.InvT-loop
+Inv-loop s n befores order₀ a₀ order a = (a ≤ n) × (n ≡ model s .activities) × Placed (model s) a order
+
+abbrev μ-loop : tie.MeasureT-loop
+μ-loop s n befores order₀ a₀ order a = n - a
+
+counts-requires : tie.Need-counts-requires Inv-loop μ-loop
+counts-requires c κs = search needs
+
+cast-n : tie.Need-cast-n Inv-loop μ-loop
+cast-n c = search needs
+
+masks-requires : tie.Need-masks-requires Inv-loop μ-loop
+masks-requires c κs = search needs
+
+loop-holds : tie.Need-loop-holds Inv-loop μ-loop
+unfolding sizesOf
+loop-holds c =
+    let x = c .before .before .before .before in
+    (omega arith, ap (λ (z : Sizes). z .activities) (c .before .before .counts .ensures), placed-none _ (x .pre))
+
+mul-ones : tie.Need-mul-ones Inv-loop μ-loop
+mul-ones c = omega arith
+
+array-read-ones : tie.Need-array-read-ones Inv-loop μ-loop
+array-read-ones c = omega arith
+
+ones-requires : tie.Need-ones-requires Inv-loop μ-loop
+ones-requires c κs = search needs
+
+cast-order : tie.Need-cast-order Inv-loop μ-loop
+cast-order c = omega arith
+
+cast-order-2 : tie.Need-cast-order-2 Inv-loop μ-loop
+cast-order-2 c = omega arith
+
+mul-order : tie.Need-mul-order Inv-loop μ-loop
+mul-order c = omega arith
+
+array-write-order : tie.Need-array-write-order Inv-loop μ-loop
+array-write-order c =
+    let c3 = c .before .before .before in
+    let x = c3 .before .before .before .before in
+    let a = c .before .before .loop .a in
+    let m = model (x .args .s .now) in
+    omega (
+      arith,
+      c .ones .ensures ∙ ones-place m (c3 .masks .result) a (x .pre) (omega arith) (c3 .masks .ensures),
+      place-lt m a (omega arith),
+    )
+
+add-a : tie.Need-add-a Inv-loop μ-loop
+add-a c = omega arith
+
+loop-less : tie.Need-loop-less Inv-loop μ-loop
+loop-less c = omega arith
+
+loop-again : tie.Need-loop-again Inv-loop μ-loop
+loop-again c =
+    let c3 = c .before .before .before in
+    let x = c3 .before .before .before .before in
+    let l = c .before .before .loop in
+    let m = model (x .args .s .now) in (
+      omega arith,
+      l .inv .1,
+      placed-next m (l .a) _ _ (x .pre) (omega arith)
+          (c .ones .ensures ∙ ones-place m (c3 .masks .result) (l .a) (x .pre) (omega arith) (c3 .masks .ensures)) (l .inv .2),
+    )
+
+returns : tie.Need-returns Inv-loop μ-loop
+returns c =
+    let x = c .before .before .before .before .before .before in
+    let l = c .before .loop in
+    let m = model (x .args .s .now) in
+    let whole : l .a ≡ m .activities = omega arith in
+    placed-all m _ (x .pre) (subst (λ a. Placed m a (l .order)) whole (l .inv .2))
+
+pub order-spec : {M : Type 1} → statement M
+order-spec =
+    tie.close
+    (tie.spec
+    Inv-loop
+    μ-loop
+    counts-requires
+    cast-n
+    masks-requires
+    loop-holds
+    mul-ones
+    array-read-ones
+    ones-requires
+    cast-order
+    cast-order-2
+    mul-order
+    array-write-order
+    add-a
+    loop-less
+    loop-again
+    returns)
