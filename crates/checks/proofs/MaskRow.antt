@@ -1,17 +1,21 @@
 -- A row whose broken columns are a mask: the lowest bit of the mask is the row's answer.
 -- Assumes nothing.
-use Prim.Native.Nat.{ℕ, _+_, _≤_, _<_}
+use Prim.Native.Nat.{ℕ, _+_, _^_, _≤_, _<_}
 use native.Mathlib.Decide.{decLt}
+use native.Mathlib.Nat.{lt-of-lt-of-le}
 use native.Mathlib.Omega.{arith}
 use mathlib.Core.Bool.{Bool, true, false, not, cond}
 use mathlib.Core.Option.{some, none}
 use mathlib.Core.Path.{_≡_, refl, sym, subst, ap, _∙_}
 use lib.Dec.{T}
+use lib.Pow.{pow-mono}
 use Rattle.schedule.specs.Bounded.{bit, lowest, wordOf}
 use Rattle.schedule.specs.Rule.{Rule}
+use Rattle.laws.proofs.Counting.{T-false}
 use Rattle.laws.proofs.Lowest.{lowest-is}
 use Rattle.laws.proofs.Tests.{T-not, T-not-not}
 use Rattle.laws.proofs.Words.{bit-wordOf, bit-high, wordOf-lt}
+use Rattle.laws.proofs.WordLaws.{zero-bits}
 use Rattle.laws.proofs.RowLaws.{refusalAt, rowBreak, row-clear, row-broken}
 use Rattle.checks.specs.Tables.{brokenMask}
 
@@ -56,6 +60,14 @@ pub row-goes-on : (r : Rule) (a mask b : ℕ) → r .columns ≤ 32 → mask ≡
 row-goes-on r a mask b few e k l =
     let k′ : b ≡ lowest 32 (bit (brokenMask r a)) = k ∙ ap (λ (w : ℕ). lowest 32 (bit w)) e in
     mask-clear r a few (λ i h. lowest-is 32 (bit (brokenMask r a)) .none-below i (omega (arith, k′)))
+
+-- an empty mask is 0
+pub mask-none : (r : Rule) (a mask b : ℕ) → r .columns ≤ 32 → mask ≡ brokenMask r a → b ≡ lowest 32 (bit mask) → 32 ≤ b → mask ≡ 0
+unfolding brokenMask
+mask-none r a mask b few e k l =
+    zero-bits 32 mask
+    (subst (λ (w : ℕ). w < 2 ^ 32) (sym e) (lt-of-lt-of-le (wordOf-lt (r .columns) (λ b. not (r .test a b))) (pow-mono few))) .1
+    (λ i h. T-false (bit mask i) (lowest-is 32 (bit mask) .none-below i (omega (arith, k))))
 
 -- a rule with one column is broken at it, or nowhere in the row
 pub one-column : (r : Rule) (a : ℕ) → r .columns ≡ 1 → brokenMask r a ≡ cond (r .test a 0) 0 1

@@ -1,4 +1,4 @@
--- A rule's broken places at a tick, read off masks of waiting and outranking activities.
+-- A rule's broken places at a tick, read off masks of the waiting that count and of outranking activities.
 -- Assumes nothing.
 use Prim.Native.Nat.{ℕ, _+_, _^_, _≤_, _<_}
 use native.Mathlib.Nat.{lt-of-le-of-lt}
@@ -7,18 +7,19 @@ use mathlib.Core.Bool.{Bool, true, false, _&&_, not, cond, Bool·not-not}
 use mathlib.Core.Path.{_≡_, refl, sym, ap, ap₂, _∙_}
 use lib.Bits.{bitAnd, and-le-l}
 use lib.Dec.{T, leb, ltb, eqb}
-use Rattle.schedule.specs.Bounded.{all, greatest, ones, bit, wordOf, _⇒_}
+use Rattle.schedule.specs.Bounded.{all, greatest, bit, wordOf, _⇒_}
 use Rattle.schedule.specs.Model.{Model, priorityOf, temporally, byData}
 use Rattle.schedule.specs.Plan.{Plan, active}
-use Rattle.schedule.specs.Checks.{waits, rule28, rule29, rule30, rule31}
+use Rattle.schedule.specs.Checks.{waits, load, contends, rule28, rule29, rule30, rule31}
 use Rattle.laws.proofs.Tests.{tests, T-leb}
 use Rattle.laws.proofs.Counting.{T-ext, all-ext}
 use Rattle.laws.proofs.Sums.{greatest-bound, greatest-each}
 use Rattle.laws.proofs.Sound.{waits-sound}
 use Rattle.laws.proofs.Words.{wordOf-ext, wordOf-lt, word-ext, bit-wordOf}
-use Rattle.laws.proofs.WordLaws.{bit-and, zero-bits}
+use Rattle.laws.proofs.WordLaws.{bit-and, word-none}
 use Rattle.tables.specs.declared.ranking.Order.{Order}
-use Rattle.checks.specs.Tables.{brokenMask, any, waitsFrom, waitingMask, rankMask, outranking}
+use Rattle.checks.specs.Tables.{brokenMask, waitsFrom}
+use Rattle.checks.specs.Ticks.{any, rankMask, outranking, contendingMask}
 
 -- a term that counts only where a test passes
 counted : (t : Bool) (x : ℕ) → T t → cond t x 0 ≡ x
@@ -71,17 +72,14 @@ waits-when m p t a = T-ext _ _ there back
           );
         })
 
-and-words : (n k : ℕ) (p q : ℕ → Bool) → n ≤ k → bitAnd (wordOf n p) (wordOf k q) ≡ wordOf n (λ b. p b && q b)
+-- the bits that two words share
+pub and-words : (n k : ℕ) (p q : ℕ → Bool) → n ≤ k → bitAnd (wordOf n p) (wordOf k q) ≡ wordOf n (λ b. p b && q b)
 and-words n k p q h =
     word-ext n (bitAnd (wordOf n p) (wordOf k q)) (wordOf n (λ b. p b && q b))
     (lt-of-le-of-lt (and-le-l (wordOf n p) (wordOf k q)) (wordOf-lt n p)) (wordOf-lt n (λ b. p b && q b))
     (λ b l. bit-and (wordOf n p) (wordOf k q) b
     ∙ ap₂ _&&_ (bit-wordOf n p b l) (bit-wordOf k q b (omega arith))
     ∙ sym (bit-wordOf n (λ b. p b && q b) b l))
-
--- a word of nothing
-word-none : (n : ℕ) (p : ℕ → Bool) → ((b : ℕ) → b < n → p b ≡ false) → wordOf n p ≡ 0
-word-none n p h = zero-bits n (wordOf n p) (wordOf-lt n p) .1 (λ b l. bit-wordOf n p b l ∙ h b l)
 
 -- where a test guards a mask: all of it, or nothing
 guarded : (n : ℕ) (t : Bool) (p : ℕ → Bool) → wordOf n (λ b. not (t ⇒ p b)) ≡ cond t (wordOf n (λ b. not (p b))) 0
@@ -92,14 +90,14 @@ not-implies : (a b : Bool) → not (a ⇒ b) ≡ (a && not b)
 not-implies true b = refl
 not-implies false b = refl
 
--- 30: with fewer than c ones, whatever waits breaks the rule
+-- 30: with fewer than c cores taken, whatever counts breaks the rule
 pub idle-mask : (m : Model) (p : Plan) (t : ℕ)
-    → brokenMask (rule30 m p) t ≡ cond (ltb (ones (p .word t)) (m .cores)) (waitingMask m p t) 0
-unfolding brokenMask rule30 waitingMask
+    → brokenMask (rule30 m p) t ≡ cond (ltb (load m p t) (m .cores)) (contendingMask m p t) 0
+unfolding brokenMask rule30 contendingMask
 idle-mask m p t =
-    guarded (m .activities) (ltb (ones (p .word t)) (m .cores)) (λ b. not (waits m p t b))
-    ∙ ap (λ (w : ℕ). cond (ltb (ones (p .word t)) (m .cores)) w 0)
-    (wordOf-ext (m .activities) _ _ (λ b _. Bool·not-not (waits m p t b)))
+    guarded (m .activities) (ltb (load m p t) (m .cores)) (λ b. not (contends m p t b))
+    ∙ ap (λ (w : ℕ). cond (ltb (load m p t) (m .cores)) w 0)
+    (wordOf-ext (m .activities) _ _ (λ b _. Bool·not-not (contends m p t b)))
 
 -- some active activity that b outranks, by the test that 29 or 31 makes of the two
 any-not : (n : ℕ) (w : ℕ) (q : ℕ → Bool) → not (all n (λ a. bit w a ⇒ not (q a))) ≡ any n (λ a. bit w a && q a)
@@ -114,23 +112,23 @@ pub any-ext : (n : ℕ) (p q : ℕ → Bool) → ((i : ℕ) → i < n → p i �
 unfolding any
 any-ext n p q h = ap not (all-ext n _ _ (λ i l. ap not (h i l)))
 
--- what breaks 29 or 31 with exactly c ones: the waiting that stand in the mask of some active activity, where `beats a b`
--- is the test of the two that the rule makes, and mask a holds the b that pass it
+-- what breaks 29 or 31 with exactly c cores taken: the waiting that count and stand in the mask of some active activity,
+-- where `beats a b` is the test of the two that the rule makes, and mask a holds the b that pass it
 contested : (m : Model) (p : Plan) (t : ℕ) → m .activities ≤ 32 → (full : Bool) (mask : ℕ → ℕ) (beats : ℕ → ℕ → Bool)
     → ((a b : ℕ) → a < m .activities → b < m .activities → bit (mask a) b ≡ beats a b)
     → wordOf (m .activities)
-    (λ b. not (full ⇒ waits m p t b ⇒ all (m .activities) (λ a. active p t a ⇒ not (beats a b))))
-    ≡ cond full (bitAnd (waitingMask m p t) (outranking (m .activities) mask (p .word t))) 0
-unfolding waitingMask outranking
+    (λ b. not (full ⇒ contends m p t b ⇒ all (m .activities) (λ a. active p t a ⇒ not (beats a b))))
+    ≡ cond full (bitAnd (contendingMask m p t) (outranking (m .activities) mask (p .word t))) 0
+unfolding contendingMask outranking
 contested m p t few full mask beats h =
-    guarded (m .activities) full (λ b. waits m p t b ⇒ all (m .activities) (λ a. active p t a ⇒ not (beats a b)))
+    guarded (m .activities) full (λ b. contends m p t b ⇒ all (m .activities) (λ a. active p t a ⇒ not (beats a b)))
     ∙ ap (λ (w : ℕ). cond full w 0)
     (wordOf-ext (m .activities) _ _ (λ b lb.
-    not-implies (waits m p t b) (all (m .activities) (λ a. active p t a ⇒ not (beats a b)))
-    ∙ ap (λ (x : Bool). waits m p t b && x)
+    not-implies (contends m p t b) (all (m .activities) (λ a. active p t a ⇒ not (beats a b)))
+    ∙ ap (λ (x : Bool). contends m p t b && x)
     (any-not (m .activities) (p .word t) (λ a. beats a b)
     ∙ any-ext (m .activities) _ _ (λ a la. ap (λ (x : Bool). active p t a && x) (sym (h a b la lb)))))
-    ∙ sym (and-words (m .activities) 32 (waits m p t)
+    ∙ sym (and-words (m .activities) 32 (contends m p t)
     (λ b. any (m .activities) (λ a. active p t a && bit (mask a) b)) few))
 
 pub leb-not-ltb : (x y : ℕ) → leb x y ≡ not (ltb y x)
@@ -139,16 +137,16 @@ leb-not-ltb x y = T-ext _ _ (λ h. simp tests (λ l. omega (arith, T-leb x y .0 
     at-most : (¬ (y < x)) → x ≤ y
     at-most n = omega arith
 
--- 29: with exactly c ones, the waiting with a priority above some active one's
+-- 29: with exactly c cores taken, the waiting that count with a priority above some active one's
 pub preemption-mask : (m : Model) (p : Plan) (t : ℕ) → m .activities ≤ 32
     → brokenMask (rule29 m p) t
-    ≡ cond (eqb (ones (p .word t)) (m .cores))
-    (bitAnd (waitingMask m p t) (outranking (m .activities) (rankMask m Order.Higher) (p .word t))) 0
+    ≡ cond (eqb (load m p t) (m .cores))
+    (bitAnd (contendingMask m p t) (outranking (m .activities) (rankMask m Order.Higher) (p .word t))) 0
 unfolding brokenMask rule29 rankMask
 preemption-mask m p t few =
-    wordOf-ext (m .activities) _ _ (λ b _. ap (λ (x : Bool). not (eqb (ones (p .word t)) (m .cores) ⇒ waits m p t b ⇒ x))
+    wordOf-ext (m .activities) _ _ (λ b _. ap (λ (x : Bool). not (eqb (load m p t) (m .cores) ⇒ contends m p t b ⇒ x))
     (all-ext (m .activities) _ _ (λ a _. ap (λ (x : Bool). active p t a ⇒ x) (leb-not-ltb (priorityOf m b) (priorityOf m a)))))
-    ∙ contested m p t few (eqb (ones (p .word t)) (m .cores)) (rankMask m Order.Higher) (λ a b. ltb (priorityOf m a) (priorityOf m b))
+    ∙ contested m p t few (eqb (load m p t) (m .cores)) (rankMask m Order.Higher) (λ a b. ltb (priorityOf m a) (priorityOf m b))
     (λ a b _ lb. bit-wordOf (m .activities) (λ b. ltb (priorityOf m a) (priorityOf m b)) b lb)
 
 swapped : (a b c : Bool) → (a ⇒ b ⇒ c) ≡ (b ⇒ a ⇒ c)
@@ -162,27 +160,27 @@ not-both true false = refl
 not-both false true = refl
 not-both false false = refl
 
--- 31: with exactly c ones, the waiting with the priority of some active activity with a larger number
+-- 31: with exactly c cores taken, the waiting that count with the priority of some active activity with a larger number
 pub tie-mask : (m : Model) (p : Plan) (t : ℕ) → m .activities ≤ 32
     → brokenMask (rule31 m p) t
-    ≡ cond (eqb (ones (p .word t)) (m .cores))
-    (bitAnd (waitingMask m p t) (outranking (m .activities) (rankMask m Order.Level) (p .word t))) 0
+    ≡ cond (eqb (load m p t) (m .cores))
+    (bitAnd (contendingMask m p t) (outranking (m .activities) (rankMask m Order.Level) (p .word t))) 0
 unfolding brokenMask rule31 rankMask
 tie-mask m p t few =
     wordOf-ext (m .activities) _ _ (λ b _. ap not
-    (swapped (waits m p t b) (eqb (ones (p .word t)) (m .cores)) _
-    ∙ ap (λ (x : Bool). eqb (ones (p .word t)) (m .cores) ⇒ waits m p t b ⇒ x)
+    (swapped (contends m p t b) (eqb (load m p t) (m .cores)) _
+    ∙ ap (λ (x : Bool). eqb (load m p t) (m .cores) ⇒ contends m p t b ⇒ x)
     (all-ext (m .activities) _ _ (λ a _. ap (λ (x : Bool). active p t a ⇒ x)
     (not-both (ltb b a) (eqb (priorityOf m b) (priorityOf m a)))))))
-    ∙ contested m p t few (eqb (ones (p .word t)) (m .cores)) (rankMask m Order.Level)
+    ∙ contested m p t few (eqb (load m p t) (m .cores)) (rankMask m Order.Level)
     (λ a b. eqb (priorityOf m b) (priorityOf m a) && ltb b a)
     (λ a b _ lb. bit-wordOf (m .activities) (λ b. eqb (priorityOf m b) (priorityOf m a) && ltb b a) b lb)
 
 -- 28: the one place of the row is broken
 pub cores-mask : (m : Model) (p : Plan) (t : ℕ)
-    → brokenMask (rule28 m p) t ≡ cond (leb (ones (p .word t)) (m .cores)) 0 1
+    → brokenMask (rule28 m p) t ≡ cond (leb (load m p t) (m .cores)) 0 1
 unfolding brokenMask rule28 wordOf
-cores-mask m p t = one (leb (ones (p .word t)) (m .cores))
+cores-mask m p t = one (leb (load m p t) (m .cores))
   where
     one : (b : Bool) → 0 + cond (not b) (2 ^ 0) 0 ≡ cond b 0 1
     one true = refl

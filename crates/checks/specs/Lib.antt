@@ -1,3 +1,4 @@
 pub mod Windows
 pub mod Tables
 pub mod Rules
+pub mod Ticks

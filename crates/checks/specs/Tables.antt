@@ -1,23 +1,18 @@
 -- What the checks keep in tables and masks, so that a tick costs a few operations on whole words.
 -- Assumes nothing.
 use Prim.Native.Nat.{ℕ, _+_, _-_, _≤_, max}
-use mathlib.Core.Bool.{Bool, _&&_, not, cond}
+use mathlib.Core.Bool.{not, cond}
 use mathlib.Core.List.{List, []}
 use mathlib.Core.Path.{_≡_}
-use lib.Bits.{bitAnd}
-use lib.Dec.{eqb, leb, ltb}
 use lib.ListN.{getD}
-use Rattle.schedule.specs.Bounded.{all, greatest, ones, bit, wordOf}
-use Rattle.schedule.specs.Model.{Model, priorityOf, temporally, byData}
+use Rattle.schedule.specs.Bounded.{greatest, wordOf}
+use Rattle.schedule.specs.Model.{Model, temporally, byData}
 use Rattle.schedule.specs.Plan.{Plan}
 use Rattle.schedule.specs.Rule.{Rule}
-use Rattle.schedule.specs.Checks.{countOf, efe, waits, ruleOf}
-use Rattle.schedule.specs.declared.TickRule.{TickRule}
-use Rattle.schedule.specs.declared.RuleRefusal.{RuleRefusal}
+use Rattle.schedule.specs.Checks.{countOf, efe}
 use Rattle.tables.specs.declared.ranking.Order.{Order}
 use Rattle.tables.specs.Columns.{TableOf}
-use Rattle.tables.specs.Ranking.{ranks, rankingOf}
-use Rattle.checks.specs.Windows.{without}
+use Rattle.tables.specs.Ranking.{rankingOf}
 
 -- the tables by what they hold
 abbrev pub counts : List (List ℕ) → List ℕ
@@ -35,13 +30,12 @@ finishes tables = getD tables 3 []
 abbrev pub froms : List (List ℕ) → List ℕ
 froms tables = getD tables 4 []
 
+abbrev pub befores : List (List ℕ) → List ℕ
+befores tables = getD tables 5 []
+
 -- the columns of row a at which a rule's test fails, as a word
 unfoldable pub brokenMask : Rule → ℕ → ℕ
 brokenMask r a = wordOf (r .columns) (λ b. not (r .test a b))
-
--- p holds of some i < n
-unfoldable pub any : ℕ → (ℕ → Bool) → Bool
-any n p = not (all n (λ i. not (p i)))
 
 -- the tick from which a can wait: its efe, and its predecessors' ends
 unfoldable pub waitsFrom : Model → Plan → ℕ → ℕ
@@ -49,42 +43,6 @@ waitsFrom m p a =
     max (efe m p a)
     (max (greatest (m .activities) (λ b. cond (temporally m b a) (p .end b + m .delay b) 0))
     (greatest (m .activities) (λ b. cond (byData m b a) (p .end b) 0)))
-
--- the activities that wait at tick t
-unfoldable pub waitingMask : Model → Plan → ℕ → ℕ
-waitingMask m p t = wordOf (m .activities) (waits m p t)
-
--- the activities that come before a in a sense
-unfoldable pub rankMask : Model → Order → ℕ → ℕ
-rankMask m order a = wordOf (m .activities) (λ b. ranks order (priorityOf m) b a)
-
--- the activities that stand in the mask of some activity of the word
-unfoldable pub outranking : ℕ → (ℕ → ℕ) → ℕ → ℕ
-outranking n mask word = wordOf 32 (λ b. any n (λ a. bit word a && bit (mask a) b))
-
--- the same from a table of masks
-unfoldable pub outrankingOf : List ℕ → ℕ → ℕ
-outrankingOf masks word = outranking 32 (λ a. getD masks a 0) word
-
--- rules 28 to 31 by name
-abbrev pub tickRule : TickRule → Model → Plan → Rule
-tickRule rule = ruleOf (RuleRefusal.Tick rule)
-
--- the activities that break one of these rules at a tick with this word, where the open ones may wait
-abbrev pub breakingOf : TickRule → ℕ → ℕ → ℕ → List ℕ → ℕ
-breakingOf TickRule.Cores word c opened masks = cond (leb (ones word) c) 0 1
-breakingOf TickRule.Preemption word c opened masks =
-    cond (eqb (ones word) c) (bitAnd (without opened word) (outrankingOf masks word)) 0
-breakingOf TickRule.Idle word c opened masks = cond (ltb (ones word) c) (without opened word) 0
-breakingOf TickRule.Tie word c opened masks =
-    cond (eqb (ones word) c) (bitAnd (without opened word) (outrankingOf masks word)) 0
-
--- the masks by which 29 and 31 compare a waiting activity; the others compare none
-abbrev pub Ranked : TickRule → Model → List ℕ → Type 0
-Ranked TickRule.Cores m masks = Unit
-Ranked TickRule.Preemption m masks = masks ≡ rankingOf Order.Higher m
-Ranked TickRule.Idle m masks = Unit
-Ranked TickRule.Tie m masks = masks ≡ rankingOf Order.Level m
 
 -- the latest that a's predecessors let go, where `done b` is when activity b is done
 unfoldable pub after : Model → ℕ → (ℕ → ℕ) → ℕ → ℕ
@@ -107,3 +65,4 @@ pub record Tabulated (m : Model) (p : Plan) (tables : List (List ℕ)) : Type 0 
   pub delay-ticks : TableOf m (delays tables) (m .delay)
   pub finish-ticks : TableOf m (finishes tables) (finishOf m p)
   pub from-ticks : TableOf m (froms tables) (waitsFrom m p)
+  pub before-masks : befores tables ≡ rankingOf Order.Before m

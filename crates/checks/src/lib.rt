@@ -16,6 +16,8 @@ use schedule::Refusal;
 use schedule::RuleRefusal;
 use schedule::TickRule;
 use schedule::Verdict;
+use tables::loads::Widths;
+use tables::loads::widths_of;
 use tick::over_ticks;
 ghost use mathlib.Core.Path.{_≡_};
 ghost use mathlib.Core.Option.{some};
@@ -26,6 +28,7 @@ ghost use Rattle.schedule.specs.Plan.{plan};
 ghost use Rattle.schedule.specs.Checks.{ruleOf};
 ghost use Rattle.schedule.specs.Answers.{answer, figures, plainVerdict, strictVerdict};
 ghost use Rattle.schedule.specs.Numbers.{ruleNumber, verdictNumbers};
+ghost use Rattle.tables.specs.Loads.{widthsOf};
 ghost use Rattle.checks.specs.Rules.{Counted, orderOf, gridRules, checksOf};
 ghost use Rattle.records.specs.Reads.{passNumbers};
 
@@ -37,13 +40,21 @@ fn refused(why: RuleRefusal, a: u32, b: u32) -> Pass
 }
 
 // A rule tried at each of its places.
-fn over(rule: RuleRefusal, s: &[u8], r: &[u8], outside: u32, tables: &Tables) -> Pass
+fn over(
+    rule: RuleRefusal,
+    s: &[u8],
+    r: &[u8],
+    outside: u32,
+    widths: Widths,
+    tables: &Tables,
+) -> Pass
     requires { ⌜ Counted (model (now s)) (plan (now r)) outside (now tables) ⌝ }
+    requires { ⌜ widths ≡ widthsOf (model (now s)) ⌝ }
     ensures { λ x. ⌜ passNumbers x ≡ break (ruleOf rule (model (now (s .entry))) (plan (now (r .entry)))) ⌝ }
 {
     match rule {
         RuleRefusal::Activity(rule) => over_activities(rule, s, r, outside, tables),
-        RuleRefusal::Tick(rule) => over_ticks(rule, s, r, tables),
+        RuleRefusal::Tick(rule) => over_ticks(rule, s, r, widths, tables),
     }
 }
 
@@ -74,10 +85,11 @@ fn grid_rules(s: &[u8], r: &[u8], strict: bool) -> Pass
     let n = rules_tried(strict);
     let tables = page::tabulate(s, r);
     let outside = windows::strays(s, r, &tables);
+    let widths = widths_of(s);
     let mut k: usize = 0;
     while k < n {
         let rule = order[k];
-        let pass = over(rule, s, r, outside, &tables);
+        let pass = over(rule, s, r, outside, widths, &tables);
         if let Pass::Refused(_) = pass {
             return pass;
         }

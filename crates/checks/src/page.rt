@@ -3,6 +3,7 @@ use crate::efe;
 use records::model::Activity;
 use records::model::Thread;
 use tables::columns::Column;
+use tables::ranking::Order;
 ghost use mathlib.Core.Path.{_≡_};
 ghost use Prim.Native.Nat.{_<_};
 ghost use lib.ListN.{getD};
@@ -11,7 +12,7 @@ ghost use Rattle.schedule.specs.Plan.{plan};
 ghost use Rattle.checks.specs.Tables.{Tabulated};
 
 // The tables together, each by its name.
-pub(crate) type Tables = [[u32; 32]; 5];
+pub(crate) type Tables = [[u32; 32]; 6];
 
 // "count(a) is the number of words with bit a"
 pub(crate) const COUNTS: usize = 0;
@@ -23,6 +24,8 @@ pub(crate) const DELAYS: usize = 2;
 pub(crate) const FINISHES: usize = 3;
 // the tick from which a can wait
 pub(crate) const FROMS: usize = 4;
+// those that rank before a, as a word
+pub(crate) const BEFORES: usize = 5;
 
 // What a table holds for activity a.
 pub(crate) fn at(table: &[u32; 32], a: Activity) -> u32
@@ -51,5 +54,6 @@ pub(crate) fn tabulate(s: &[u8], r: &[u8]) -> Tables
     let delays = tables::columns::table(Column::Delay, s, r);
     let finishes = efe::finishes(s, r, &counts, &delays);
     let froms = efe::froms(s, &finishes, &counts, &ends, &delays);
-    [counts, ends, delays, finishes, froms]
+    let befores = tables::ranking::masks(Order::Before, s);
+    [counts, ends, delays, finishes, froms, befores]
 }

@@ -1,4 +1,5 @@
 // Rules 28 to 31, tick by tick, on whole words.
+use crate::page::BEFORES;
 use crate::page::ENDS;
 use crate::page::FROMS;
 use crate::page::Tables;
@@ -7,15 +8,18 @@ use crate::windows;
 use records::Pass;
 use schedule::RuleRefusal;
 use schedule::TickRule;
+use tables::loads::Widths;
+use tables::loads::load;
 use tables::ranking::Order;
 use tables::ranking::masks;
 ghost use mathlib.Core.Path.{_≡_};
-ghost use mathlib.Core.Bool.{cond};
-ghost use lib.Bits.{bitAnd, bitOr};
-ghost use lib.Dec.{eqb, ltb};
-ghost use Rattle.schedule.specs.Bounded.{ones};
-ghost use Rattle.checks.specs.Tables.{outrankingOf, breakingOf, tickRule};
-ghost use Rattle.checks.specs.Tables.{Tabulated, Ranked};
+ghost use Prim.Native.Nat.{_<_};
+ghost use lib.Bits.{bitOr};
+ghost use Rattle.schedule.specs.Bounded.{bit, lowest};
+ghost use Rattle.tables.specs.Loads.{widthsOf};
+ghost use Rattle.checks.specs.Tables.{Tabulated};
+ghost use Rattle.checks.specs.Ticks.{tickRule, Ranked, outrankingOf, fitsFrom, contendingOf};
+ghost use Rattle.checks.specs.Ticks.{overloadedOf, contestedOf, idleOf, breakingOf};
 ghost use Rattle.schedule.specs.Rule.{break};
 ghost use Rattle.schedule.specs.Model.{model};
 ghost use Rattle.schedule.specs.Plan.{plan};
@@ -55,45 +59,136 @@ fn outranking(word: u32, masks: &[u32; 32]) -> u32
     all
 }
 
-// 29 and 31: the waiting that stand in the mask of some active activity, where every core is busy.
-fn contested(word: u32, cores: u32, waiting: u32, masks: &[u32; 32]) -> u32
-    ensures { λ r. ⌜ r ≡ cond (eqb (ones word) cores) (bitAnd waiting (outrankingOf (now (masks .entry)) word)) 0 ⌝ }
+// Whether activity b and the active ones that rank before it take no more cores than there are.
+fn fits(b: u32, word: u32, cores: u32, widths: Widths, befores: &[u32; 32]) -> bool
+    requires { ⌜ b < 32 ⌝ }
+    ensures { λ r. ⌜ r ≡ fitsFrom widths (now (befores .entry)) word cores b ⌝ }
 {
+    let ahead = word & befores[b as usize];
+    load(widths, bits::with(ahead, b)) <= cores
+}
+
+// Those of the waiting that count: "a waiting activity counts only if its width is at most c less the widths of active
+// activities ranked before it" (U7 of 02).
+fn contending(waiting: u32, word: u32, cores: u32, widths: Widths, befores: &[u32; 32]) -> u32
+    ensures { λ r. ⌜ r ≡ contendingOf widths (now (befores .entry)) word cores waiting ⌝ }
+{
+    let mut mask: u32 = 0;
+    let mut rest = waiting;
+    while rest != 0 {
+        let b = bits::lowest(rest);
+        let yes = fits(b, word, cores, widths, befores);
+        mask = bits::mark(mask, b, yes);
+        rest = bits::without(rest, b);
+    }
+    mask
+}
+
+// A tick as the rules see it: the active activities, and those whose window is open, which wait where they are not active.
+struct Snapshot {
+    word: u32,
+    opened: u32,
+}
+
+// 28: bit 0, where more cores are taken than there are.
+fn overloaded(tick: Snapshot, cores: u32, widths: Widths) -> u32
+    ensures { λ r. ⌜ r ≡ overloadedOf widths cores tick ⌝ }
+{
+    if load(widths, tick.word) <= cores {
+        0
+    } else {
+        1
+    }
+}
+
+// 29 and 31: the waiting that count and stand in the mask of some active activity, where every core is busy.
+fn contested(
+    tick: Snapshot,
+    cores: u32,
+    widths: Widths,
+    outranked: &[u32; 32],
+    befores: &[u32; 32],
+) -> u32
+    ensures { λ r. ⌜ r ≡ contestedOf widths (now (outranked .entry)) (now (befores .entry)) cores tick ⌝ }
+{
+    let word = tick.word;
+    let waiting = windows::without(tick.opened, word);
     if waiting == 0 {
         return 0;
     }
-    if bits::ones(word) == cores {
-        return waiting & outranking(word, masks);
+    if load(widths, word) == cores {
+        let above = waiting & outranking(word, outranked);
+        return contending(above, word, cores, widths, befores);
     }
     0
 }
 
-// 30: the waiting, where a core is free.
-fn idle(word: u32, cores: u32, waiting: u32) -> u32
-    ensures { λ r. ⌜ r ≡ cond (ltb (ones word) cores) waiting 0 ⌝ }
+// 30: the waiting that count, where a core is free.
+fn idle(tick: Snapshot, cores: u32, widths: Widths, befores: &[u32; 32]) -> u32
+    ensures { λ r. ⌜ r ≡ idleOf widths (now (befores .entry)) cores tick ⌝ }
 {
+    let word = tick.word;
+    let waiting = windows::without(tick.opened, word);
     if waiting == 0 {
         return 0;
     }
-    if bits::ones(word) < cores { waiting } else { 0 }
+    if load(widths, word) < cores {
+        return contending(waiting, word, cores, widths, befores);
+    }
+    0
 }
 
-// The activities that break a rule at a tick with this word, where the open ones may wait; for 28, which names none, bit 0.
-fn breaking(rule: TickRule, word: u32, cores: u32, opened: u32, masks: &[u32; 32]) -> u32
-    ensures { λ r. ⌜ r ≡ breakingOf rule word cores opened (now (masks .entry)) ⌝ }
+// The activities that break a rule at a tick; for 28, which names none, bit 0.
+fn breaking(
+    rule: TickRule,
+    tick: Snapshot,
+    cores: u32,
+    widths: Widths,
+    outranked: &[u32; 32],
+    befores: &[u32; 32],
+) -> u32
+    ensures { λ r. ⌜ r ≡ breakingOf rule widths (now (outranked .entry)) (now (befores .entry)) cores tick ⌝ }
 {
-    let waiting = windows::without(opened, word);
     match rule {
-        TickRule::Cores => if bits::ones(word) <= cores { 0 } else { 1 },
-        TickRule::Preemption => contested(word, cores, waiting, masks),
-        TickRule::Idle => idle(word, cores, waiting),
-        TickRule::Tie => contested(word, cores, waiting, masks),
+        TickRule::Cores => overloaded(tick, cores, widths),
+        TickRule::Preemption => contested(tick, cores, widths, outranked, befores),
+        TickRule::Idle => idle(tick, cores, widths, befores),
+        TickRule::Tie => contested(tick, cores, widths, outranked, befores),
     }
 }
 
+// The lowest of them, 32 where there is none. A tick that shows what one shows that breaks nothing breaks nothing either.
+fn first_breaking(
+    rule: TickRule,
+    passed: Snapshot,
+    tick: Snapshot,
+    cores: u32,
+    widths: Widths,
+    outranked: &[u32; 32],
+    befores: &[u32; 32],
+) -> u32
+    requires { ⌜ breakingOf rule widths (now outranked) (now befores) cores passed ≡ 0 ⌝ }
+    ensures { λ r. ⌜ r
+        ≡ lowest 32 (bit (breakingOf rule widths (now (outranked .entry)) (now (befores .entry)) cores tick)) ⌝ }
+{
+    if tick.word == passed.word {
+        if tick.opened == passed.opened {
+            return 32;
+        }
+    }
+    bits::lowest(breaking(rule, tick, cores, widths, outranked, befores))
+}
+
 // A rule tried at every tick: "lowest A first, then lowest B".
-pub(crate) fn over_ticks(rule: TickRule, s: &[u8], r: &[u8], tables: &Tables) -> Pass
+pub(crate) fn over_ticks(
+    rule: TickRule,
+    s: &[u8],
+    r: &[u8],
+    widths: Widths,
+    tables: &Tables,
+) -> Pass
     requires { ⌜ Tabulated (model (now s)) (plan (now r)) (now tables) ⌝ }
+    requires { ⌜ widths ≡ widthsOf (model (now s)) ⌝ }
     ensures { λ x. ⌜ passNumbers x ≡ break (tickRule rule (model (now (s .entry))) (plan (now (r .entry)))) ⌝ }
 {
     let sizes = records::model::counts(s);
@@ -103,14 +198,27 @@ pub(crate) fn over_ticks(rule: TickRule, s: &[u8], r: &[u8], tables: &Tables) ->
     let outranked = outranked_by(rule, s);
     let grid = records::plan::words(r);
     let mut waitable = ticks::unknown();
+    let mut passed = Snapshot { word: 0, opened: 0 };
     let mut t: u16 = 0;
     while t < horizon {
         waitable = windows::at(waitable, n, &tables[FROMS], &tables[ENDS], t as u32);
-        let word = records::grid::word(grid, t as usize);
-        let b = bits::lowest(breaking(rule, word, cores, waitable.word, &outranked));
+        let tick = Snapshot {
+            word: records::grid::word(grid, t as usize),
+            opened: waitable.word,
+        };
+        let b = first_breaking(
+            rule,
+            passed,
+            tick,
+            cores,
+            widths,
+            &outranked,
+            &tables[BEFORES],
+        );
         if b < 32 {
             return refused(RuleRefusal::Tick(rule), t as u32, b);
         }
+        passed = tick;
         t += 1;
     }
     Pass::Holds

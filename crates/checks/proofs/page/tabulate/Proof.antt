@@ -50,26 +50,30 @@ froms-requires c κs =
       ),
     )
 
+masks-requires : tie.Need-masks-requires
+masks-requires c κs = search needs
+
 returns : tie.Need-returns
 unfolding columnOf
 returns c =
-    let c5 = c .before .before .before .before .before in
-    let c9 = c5 .before .before .before .before in
-    let c10 = c9 .before in
-    let start = c10 .before .before .before in
+    let c6 = c .before .before .before .before .before .before in
+    let c10 = c6 .before .before .before .before in
+    let c11 = c10 .before in
+    let start = c11 .before .before .before in
     let m = model (start .args .s .now) in
     let p = plan (start .args .r .now) in
     let few = start .pre .activities .1 in
-    let counts = count-table m p _ few (c10 .counts .ensures) in
-    let ends = by-table m _ _ few (c9 .table .ensures) in
+    let counts = count-table m p _ few (c11 .counts .ensures) in
+    let ends = by-table m _ _ few (c10 .table .ensures) in
     record {
       few = few;
       count-ticks = counts;
       end-ticks = ends;
-      delay-ticks = by-table m _ _ few (c5 .before .before .before .table2 .ensures);
-      finish-ticks = c5 .finishes .ensures;
-      from-ticks = from-tables m p (c10 .counts .result) (c9 .table .result) (c5 .finishes .result) (c .froms .result)
-          counts ends (c5 .finishes .ensures) (c .froms .ensures);
+      delay-ticks = by-table m _ _ few (c6 .before .before .before .table2 .ensures);
+      finish-ticks = c6 .finishes .ensures;
+      from-ticks = from-tables m p (c11 .counts .result) (c10 .table .result) (c6 .finishes .result) (c .before .froms .result)
+          counts ends (c6 .finishes .ensures) (c .before .froms .ensures);
+      before-masks = c .masks .ensures;
     }
 
 pub tabulate-spec : {M : Type 1} → statement M
@@ -81,4 +85,5 @@ tabulate-spec =
     table-requires-2
     finishes-requires
     froms-requires
+    masks-requires
     returns)

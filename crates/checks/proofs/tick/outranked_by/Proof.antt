@@ -3,7 +3,7 @@
 use mathlib.Core.Path.{sym, subst}
 use Rattle.schedule.specs.Model.{model}
 use Rattle.schedule.specs.declared.TickRule.{TickRule}
-use Rattle.checks.specs.Tables.{Ranked}
+use Rattle.checks.specs.Ticks.{Ranked}
 use borrow.Author.Needs.{needs}
 use Rattle.checks.proofs.tick.outranked_by.Statement.{statement}
 use Rattle.checks.proofs.tick.outranked_by.Tie as tie

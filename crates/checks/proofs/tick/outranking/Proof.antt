@@ -5,7 +5,7 @@ use mathlib.Core.Bool.{_&&_, _||_}
 use mathlib.Core.Path.{_≡_, refl, _∙_}
 use lib.ListN.{getD}
 use Rattle.schedule.specs.Bounded.{bit}
-use Rattle.checks.specs.Tables.{any, outrankingOf}
+use Rattle.checks.specs.Ticks.{any, outrankingOf}
 use Rattle.bits.proofs.Apart.{lowest-lt, rest-less}
 use Rattle.checks.proofs.WordLoops.{join-next, joined-whole}
 use borrow.Author.Needs.{needs}

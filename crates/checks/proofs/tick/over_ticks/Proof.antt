@@ -1,4 +1,5 @@
--- `checks::tick::over_ticks` meets its contract: the ticks passed are clear. Assumes nothing.
+-- `checks::tick::over_ticks` meets its contract: the ticks passed are clear, and the last of them broke nothing.
+-- Assumes nothing.
 use Prim.Native.Nat.{ℕ, _≤_, _-_}
 use native.Mathlib.Omega.{arith}
 use mathlib.Core.Option.{some}
@@ -8,27 +9,30 @@ use Rattle.schedule.specs.Model.{model}
 use Rattle.schedule.specs.Plan.{plan}
 use Rattle.records.specs.declared.model.Sizes.{Sizes}
 use Rattle.records.specs.Rows.{sizesOf}
+use Rattle.laws.proofs.Ranges.{width-lt}
 use Rattle.laws.proofs.RowLaws.{ClearTo, clear-start, clear-again, clear-end, clear-stop}
 use Rattle.laws.proofs.Sound.{rule-number}
 use Rattle.laws.proofs.PlanBytes.{word-read}
 use Rattle.ticks.specs.Kept.{Stands}
 use Rattle.ticks.proofs.KeptLaws.{stands-unknown, stands-on}
-use Rattle.checks.specs.Tables.{ends, froms, tickRule, Tabulated, Ranked}
+use Rattle.checks.specs.Tables.{ends, froms, befores, Tabulated}
+use Rattle.checks.specs.Ticks.{tickRule, Ranked, breakingOf}
 use Rattle.checks.specs.Windows.{openOf}
-use Rattle.checks.proofs.TickLaws.{tick-read, tick-shape}
-use Rattle.checks.proofs.MaskRow.{row-stops, row-goes-on}
+use Rattle.checks.proofs.TickLaws.{nothing-shown, tick-read, tick-shape}
+use Rattle.checks.proofs.MaskRow.{row-stops, row-goes-on, mask-none}
 use borrow.Author.Needs.{needs}
 use Rattle.checks.proofs.tick.over_ticks.Statement.{statement}
 use Rattle.checks.proofs.tick.over_ticks.Tie as tie
 
 abbrev Inv-loop : tie.InvT-loop
-Inv-loop rule s r tables cores n horizon outranked grid waitable₀ t₀ waitable t =
+Inv-loop rule s r widths tables cores n horizon outranked grid waitable₀ passed₀ t₀ waitable passed t =
     (t ≤ horizon) × (horizon ≡ model s .horizon) × (n ≡ model s .activities) × (cores ≡ model s .cores)
     × Tabulated (model s) (plan r) tables × ClearTo (tickRule rule (model s) (plan r)) t
     × Stands (openOf n (froms tables) (ends tables)) waitable t × Ranked rule (model s) outranked
+    × (breakingOf rule widths outranked (befores tables) cores passed ≡ 0)
 
 abbrev μ-loop : tie.MeasureT-loop
-μ-loop rule s r tables cores n horizon outranked grid waitable₀ t₀ waitable t = horizon - t
+μ-loop rule s r widths tables cores n horizon outranked grid waitable₀ passed₀ t₀ waitable passed t = horizon - t
 
 counts-requires : tie.Need-counts-requires Inv-loop μ-loop
 counts-requires c κs = search needs
@@ -52,15 +56,17 @@ loop-holds : tie.Need-loop-holds Inv-loop μ-loop
 unfolding sizesOf
 loop-holds c =
     let c5 = c .before .before .before .before .before in
-    let e = c5 .counts .ensures in (
+    let e = c5 .counts .ensures in
+    let x = c5 .before .before .before .args in (
       omega arith,
       ap (λ (y : Sizes). y .horizon) e,
       ap (λ (y : Sizes). y .activities) e,
       ap (λ (y : Sizes). y .cores) e,
-      c5 .before .before .before .pre,
+      c5 .before .before .before .pre .0,
       clear-start _,
       stands-unknown _ _ _ (c .unknown .ensures),
       c .before .before .outranked-by .ensures,
+      nothing-shown (x .rule) (x .widths) (c .before .before .outranked-by .result) (befores (x .tables .now)) (c5 .counts .result .cores),
     )
 
 index-1-at : tie.Need-index-1-at Inv-loop μ-loop
@@ -82,11 +88,11 @@ cast-word c = search needs
 word-requires : tie.Need-word-requires Inv-loop μ-loop
 word-requires c κs = search needs
 
-breaking-requires : tie.Need-breaking-requires Inv-loop μ-loop
-breaking-requires c κs = search needs
+index-1-first-breaking : tie.Need-index-1-first-breaking Inv-loop μ-loop
+index-1-first-breaking c = search needs
 
-lowest-requires : tie.Need-lowest-requires Inv-loop μ-loop
-lowest-requires c κs = search needs
+first-breaking-requires : tie.Need-first-breaking-requires Inv-loop μ-loop
+first-breaking-requires c κs = c .before .before .before .before .before .before .before .loop .inv .8
 
 cast-refused : tie.Need-cast-refused Inv-loop μ-loop
 cast-refused c =
@@ -98,25 +104,27 @@ refused-requires c κs = search needs
 
 returns : tie.Need-returns Inv-loop μ-loop
 returns c =
-    let c3 = c .before .before .before in
-    let c6 = c3 .before .before .before in
-    let c9 = c6 .before .before .before in
+    let c5 = c .before .before .before .before .before in
+    let c9 = c5 .before .before .before .before in
     let l = c9 .before .loop in
-    let x = c9 .before .before .before .before .before .before .before .before .before .before .args in
+    let c16 = c9 .before .before .before .before .before .before .before in
+    let start = c16 .before .before .before in
+    let x = start .args in
     let m = model (x .s .now) in
     let p = plan (x .r .now) in
     let mask =
-    tick-read (x .rule) m p (x .tables .now) _ (l .inv .4) (l .inv .7) (l .t) _ _ _ _ _
-    (c3 .breaking .ensures)
-    (word-read (x .r .now) _ (l .t) _ (c9 .before .before .before .words .ensures) (c3 .before .before .word .ensures))
-    (l .inv .3) (c6 .at .ensures .0) (l .inv .2) in
+    tick-read (x .rule) m p (x .tables .now) _ (l .inv .4) (l .inv .7)
+    (width-lt (x .s .now) (λ i _. c16 .before .before .shared-slice-known .given i .fits))
+    (l .t) _ _ _ _ (x .widths) (c5 .word .ok)
+    (word-read (x .r .now) _ (l .t) _ (c9 .before .before .before .words .ensures) (c5 .word .ensures))
+    (l .inv .3) (start .pre .1) (c5 .before .at .ensures .0) (l .inv .2) in
     let few = tick-shape (x .rule) m p .1 (l .inv .4 .few) in
     c .refused .ensures
-    ∙ ap (λ (k : ℕ). some (record { number = k; A = l .t; B = c .before .before .lowest .result }))
+    ∙ ap (λ (k : ℕ). some (record { number = k; A = l .t; B = c .before .before .first-breaking .result }))
     (rule-number m p (RuleRefusal.Tick (x .rule)))
     ∙ sym (clear-stop (tickRule (x .rule) m p) (l .t) _ (l .inv .5)
     (omega (arith, tick-shape (x .rule) m p .0, l .inv .1, c9 .loop-test .taken))
-    (row-stops (tickRule (x .rule) m p) (l .t) _ _ few mask (c .before .before .lowest .ensures)
+    (row-stops (tickRule (x .rule) m p) (l .t) _ _ few mask (c .before .before .first-breaking .ensures)
     (c .before .if1 .taken)))
 
 add-t : tie.Need-add-t Inv-loop μ-loop
@@ -129,27 +137,31 @@ loop-less c = omega arith
 
 loop-again : tie.Need-loop-again Inv-loop μ-loop
 loop-again c =
-    let c5 = c .before .before .before .before .before in
-    let c9 = c5 .before .before .before .before in
+    let c4 = c .before .before .before .before in
+    let c9 = c4 .before .before .before .before .before in
     let l = c9 .loop in
-    let x = c9 .before .before .before .before .before .before .before .before .before .args in
+    let c15 = c9 .before .before .before .before .before .before in
+    let start = c15 .before .before .before in
+    let x = start .args in
     let m = model (x .s .now) in
     let p = plan (x .r .now) in
     let mask =
-    tick-read (x .rule) m p (x .tables .now) _ (l .inv .4) (l .inv .7) (l .t) _ _ _ _ _
-    (c .before .before .breaking .ensures)
-    (word-read (x .r .now) _ (l .t) _ (c9 .before .before .words .ensures) (c .before .before .before .before .word .ensures))
-    (l .inv .3) (c5 .at .ensures .0) (l .inv .2) in
+    tick-read (x .rule) m p (x .tables .now) _ (l .inv .4) (l .inv .7)
+    (width-lt (x .s .now) (λ i _. c15 .before .before .shared-slice-known .given i .fits))
+    (l .t) _ _ _ _ (x .widths) (c4 .word .ok)
+    (word-read (x .r .now) _ (l .t) _ (c9 .before .before .words .ensures) (c4 .word .ensures))
+    (l .inv .3) (start .pre .1) (c4 .before .at .ensures .0) (l .inv .2) in
     let few = tick-shape (x .rule) m p .1 (l .inv .4 .few) in (
-      omega arith,
+      omega (arith, c4 .before .before .before .before .loop-test .taken),
       l .inv .1,
       l .inv .2,
       l .inv .3,
       l .inv .4,
       clear-again (tickRule (x .rule) m p) (l .t) (l .inv .5)
-          (row-goes-on (tickRule (x .rule) m p) (l .t) _ _ few mask (c .before .lowest .ensures) (c .if1 .left)),
-      stands-on _ _ _ (c5 .at .ensures .1),
+          (row-goes-on (tickRule (x .rule) m p) (l .t) _ _ few mask (c .before .first-breaking .ensures) (c .if1 .left)),
+      stands-on _ _ _ (c4 .before .at .ensures .1),
       l .inv .7,
+      mask-none (tickRule (x .rule) m p) (l .t) _ _ few mask (c .before .first-breaking .ensures) (c .if1 .left),
     )
 
 returns-2 : tie.Need-returns-2 Inv-loop μ-loop
@@ -179,8 +191,8 @@ over-ticks-spec =
     at-requires
     cast-word
     word-requires
-    breaking-requires
-    lowest-requires
+    index-1-first-breaking
+    first-breaking-requires
     cast-refused
     refused-requires
     returns
