@@ -1,6 +1,7 @@
 -- The report from tables by activity: its rows, the figures of a run that succeeds, and what its answer leaves in the list.
 -- Assumes nothing.
 use Prim.Native.Nat.{ℕ, _*_, _-_, _≤_, _<_}
+use native.Mathlib.Nat.{mul-le-mul}
 use native.Mathlib.Omega.{arith}
 use mathlib.Core.List.{List}
 use mathlib.Core.Option.{some, none}
@@ -68,19 +69,23 @@ all-ended m q ends has e = record {
       says (runNumber RunRefusal.Owed) (runRules m q) (none-iff (runRules m q) (runRules-sound m q) .0 e) a 0 l (omega arith);
 }
 
-pub figures-are : (m : Model) (q : Choice) (ends durations : List ℕ) (used span : ℕ) → AllEnded m q ends
-    → TableOf m durations (q .duration)
-    → used ≡ total (m .activities) (λ a. getD durations a 0)
+pub figures-are : (m : Model) (q : Choice) (ends durations widths : List ℕ) (used span : ℕ) → AllEnded m q ends
+    → TableOf m durations (q .duration) → TableOf m widths (m .width)
+    → used ≡ total (m .activities) (λ a. getD durations a 0 * getD widths a 0)
     → span ≡ greatest (m .activities) (λ a. getD ends a 0) - least (m .threads) (q .release)
     → _≡_ {A = Figures} (record { usage = used; capacity = m .cores * m .horizon; makespan = span })
     (figures m (machinePlan m q))
 unfolding figures machinePlan
-figures-are m q ends durations used span h lasting u s =
-    let sum = u ∙ total-ext (m .activities) _ (q .duration) lasting
-    ∙ sym (usage-durations m q (h .has-ends .formed .activities .1) (h .nothing-owed)) in
+figures-are m q ends durations widths used span h lasting wide u s =
+    let sum = u ∙ total-ext (m .activities) _ _ (λ a l. ap₂ _*_ (lasting a l) (wide a l))
+    ∙ sym (usage-durations m q (h .nothing-owed)) in
     let last = s ∙ ap (λ (x : ℕ). x - least (m .threads) (q .release))
     (greatest-ext (m .activities) _ (machineEnd m (q .release) (q .duration)) (h .has-ends .end-ticks)) in
     λ i. record { usage = sum i; capacity = m .cores * m .horizon; makespan = last i }
+
+-- a duration times a width fits
+pub worth-most : (x y : ℕ) → x < 65536 → y < 256 → x * y ≤ 16711425
+worth-most x y h k = mul-le-mul {n₁ = x} {m₁ = y} {n₂ = 65535} {m₂ = 255} (omega arith) (omega arith)
 
 -- ---- the answers
 

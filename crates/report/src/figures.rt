@@ -6,7 +6,7 @@ use schedule::Written;
 use tables::columns::Column;
 use tables::figures::Second;
 ghost use mathlib.Core.Path.{_≡_};
-ghost use Prim.Native.Nat.{_≤_};
+ghost use Prim.Native.Nat.{_*_, _≤_};
 ghost use lib.ListN.{getD};
 ghost use Rattle.schedule.specs.Bounded.{total, greatest};
 ghost use Rattle.schedule.specs.Model.{model};
@@ -15,21 +15,22 @@ ghost use Rattle.schedule.specs.Answers.{figures, machinePlan, written};
 ghost use Rattle.schedule.specs.Numbers.{figureNumbers, writtenNumbers};
 ghost use Rattle.report.specs.Tables.{Below, AllEnded};
 
-// The sum of a table's first n entries.
-fn total(n: usize, table: &[u32; 32]) -> u32
-    requires { ⌜ (n ≤ 32) × Below 65536 n (now table) ⌝ }
-    ensures { λ r. ⌜ r ≡ total n (λ a. getD (now (table .entry)) a 0) ⌝ }
+// "counted in core ticks" (U7 of 02): the sum of n durations, each times its width.
+fn core_ticks(n: usize, durations: &[u32; 32], widths: &[u32; 32]) -> u32
+    requires { ⌜ (n ≤ 32) × Below 65536 n (now durations) × Below 256 n (now widths) ⌝ }
+    ensures { λ r. ⌜ r
+        ≡ total n (λ a. getD (now (durations .entry)) a 0 * getD (now (widths .entry)) a 0) ⌝ }
 {
     let mut all: u32 = 0;
     let mut a = 0;
     while a < n {
-        all += table[a];
+        all += durations[a] * widths[a];
         a += 1;
     }
     all
 }
 
-// The greatest of them.
+// The greatest of a table's first n entries.
 fn latest(n: usize, table: &[u32; 32]) -> u32
     requires { ⌜ n ≤ 32 ⌝ }
     ensures { λ r. ⌜ r ≡ greatest n (λ a. getD (now (table .entry)) a 0) ⌝ }
@@ -43,8 +44,8 @@ fn latest(n: usize, table: &[u32; 32]) -> u32
     latest
 }
 
-// The figures of the machine's plan. Where nothing is owed every activity has been active for its duration, so the usage is the
-// sum of the durations.
+// The figures of the machine's plan. Where nothing is owed every activity has been active for its duration, on as many cores
+// as it is wide.
 fn figures(s: &[u8], q: &[u8], ends: &[u32; 32]) -> Figures
     requires { ⌜ AllEnded (model (now s)) (choice (now q)) (now ends) ⌝ }
     ensures { λ r. ⌜ figureNumbers r
@@ -55,10 +56,12 @@ fn figures(s: &[u8], q: &[u8], ends: &[u32; 32]) -> Figures
     let cores = sizes.cores as u32;
     let horizon = sizes.horizon as u32;
     let durations = tables::columns::table(Column::ChosenDuration, s, q);
+    let widths = tables::columns::table(Column::Width, s, q);
     let first = tables::figures::least_release(Second::Choice, q, sizes.threads);
+    let capacity = cores * horizon;
     Figures {
-        usage: total(n, &durations),
-        capacity: cores * horizon,
+        usage: core_ticks(n, &durations, &widths),
+        capacity,
         makespan: less(latest(n, ends), first),
     }
 }
