@@ -4,3 +4,4 @@ pub mod WrongRemovals
 pub mod UrgentClaims
 pub mod UrgentCases
 pub mod MorePages
+pub mod GangsAsBefore

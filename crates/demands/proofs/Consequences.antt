@@ -51,9 +51,12 @@ use Rattle.demands.proofs.Page.{formed, tested, roomy, settles}
 
 -- ---- the paper's formulas, from the places of a record's parts
 
--- "Length 10 + 10n + 15m" of version 1, and 11 + 10n + 16m of version 2
-pub model-length : (n m : ℕ) → (modelLength 1 n m ≡ 10 + 10 * n + 15 * m) × (modelLength 2 n m ≡ 11 + 10 * n + 16 * m)
-model-length n m = (refl, refl)
+-- "Length 10 + 10n + 15m" of version 1, 11 + 10n + 16m of version 2, and 11 + 10n + 17m of version 3
+pub model-length : (n m : ℕ)
+    → (modelLength 1 n m ≡ 10 + 10 * n + 15 * m)
+    × (modelLength 2 n m ≡ 11 + 10 * n + 16 * m)
+    × (modelLength 3 n m ≡ 11 + 10 * n + 17 * m)
+model-length n m = (refl, refl, refl)
 
 -- "Length 7 + 4n + 2m"
 pub choice-length : (n m : ℕ) → choiceLength n m ≡ 7 + 4 * n + 2 * m

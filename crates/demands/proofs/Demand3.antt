@@ -68,6 +68,7 @@ module _ (s q : List ℕ) (q-bytes : Bytes q) (formed : AllHold (modelForm s))
       let form = form-says (model s) r (h .1 .well-formed) in
       record {
         ordered = model-facts .ordered;
+        wide = λ a l. model-facts .wide a l .0;
         few = model-facts .activities .1;
         narrow = λ t _. field-lt r (h .1 .bytes) _ 4;
         known = form .words-within;

@@ -12,7 +12,6 @@ use mathlib.Core.Logic.{⊎-elim}
 use mathlib.Core.Path.{_≡_, refl, sym, ap, subst, _∙_}
 use lib.IntN.{ℤ, pos}
 use lib.ListN.{length, getD, length-append, length-replicate, replicate}
-use Rattle.schedule.specs.Bounded.{bit, ones}
 use Rattle.schedule.specs.declared.FormRefusal.{FormRefusal}
 use Rattle.schedule.specs.Fields.{field, Bytes}
 use Rattle.schedule.specs.Rule.{Rule, Refusal, AllHold, FirstBroken}
@@ -22,14 +21,13 @@ use Rattle.schedule.specs.Model.{limitsRule, roundsRule, rowRules}
 use Rattle.schedule.specs.Timing.{deadlineRule}
 use Rattle.schedule.specs.Choice.{Choice, choice, choiceForm}
 use Rattle.schedule.specs.Plan.{Plan, plan, planForm}
-use Rattle.schedule.specs.Checks.{rulesOf, furtherOrder, plainRules, strictRules}
+use Rattle.schedule.specs.Checks.{load, rulesOf, furtherOrder, plainRules, strictRules}
 use Rattle.schedule.specs.Answers.{Answer, accepted, refused, Figures, figures, Written, lengthNeeded, machinePlan}
 use Rattle.schedule.specs.Answers.{plainChecks, strictChecks, plainVerdict, strictVerdict}
 use Rattle.schedule.specs.Answers.{owedRule, runRules, runChecks, runAnswer}
 use Rattle.schedule.specs.Report.{rowsNeeded, reportAnswer, fills, reportRows}
 use Rattle.schedule.specs.Streams.{taken, firstRecord, secondRecord}
 use Rattle.schedule.specs.Lines.{runRoom, lastLine, runLines, rowText, lateLines, gridcheck, gridrun, gridlate}
-use Rattle.laws.proofs.Counting.{count-le}
 use Rattle.laws.proofs.Sums.{greatest-bound, total-bound}
 use Rattle.schedule.specs.Numbers.{formNumber}
 use Rattle.schedule.specs.Opened.{form-rules, check-rules}
@@ -157,15 +155,15 @@ form-limited : (s : List ℕ) → AllHold (modelForm s) → Limited (model s)
 unfolding limitsRule model
 form-limited s h = limits-kept (page s) (page-says s h)
 
--- what the plain check passes has figures below a hundred and fifty thousand
+-- what the plain check passes has figures below forty thousand
 pass-short : (s r : List ℕ) → AllHold (plainChecks s r) → ShortFigures (figures (model s) (plan r))
-unfolding plainChecks figures ones
+unfolding plainChecks figures
 pass-short s r h =
     let forms = hold-append (modelForm s) (planForm (model s) r ++ plainRules (model s) (plan r)) .0 h in
     let rules = hold-append (planForm (model s) r) (plainRules (model s) (plan r)) .0 (forms .1) in
     let l = form-limited s (forms .0) in
     let keeps = plain-keeps (model s) (plan r) .0 (rules .1) in
-    let usage = total-bound (model s .horizon) (λ t. ones (plan r .word t)) 32 (λ t _. count-le 32 (bit (plan r .word t))) in
+    let usage = total-bound (model s .horizon) (load (model s) (plan r)) 8 (λ t k. omega (arith, keeps .cores t k, l .0 .0 .1)) in
     let capacity = mul-le-mul {n₁ = model s .cores} {m₁ = model s .horizon} {n₂ = 8} {m₂ = 4096} (l .0 .0 .1) (l .1 .1 .1) in
     let last = greatest-bound (model s .activities) (plan r .end) (model s .horizon) (λ a k. keeps .window a k .inside) in
     omega (arith, usage, capacity, last, l .1 .1 .1)

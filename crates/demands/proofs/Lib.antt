@@ -9,9 +9,15 @@ pub mod Lateness
 pub mod Deadline
 pub mod Rule24
 pub mod Urgent
+pub mod BreakAlike
 pub mod SameAnswers
 pub mod SamePage
 pub mod ModelBytes
+pub mod ModelBack
 pub mod Rounds
+pub mod FirstCores
+pub mod FormerRules
+pub mod FormerForm
+pub mod Widths
 pub mod Standing
 pub mod Files

@@ -1,8 +1,7 @@
--- U4 of 02: a page's model is its plain model unrolled, and the page answers as the version 1 record of that model. The number of
--- rounds is a variable throughout.
+-- U4 of 02: a page's model is its plain model unrolled, and the page answers as the record of one round of that model. The number
+-- of rounds is a variable throughout.
 -- Assumes nothing.
 use Prim.Native.Nat.{ℕ, _+_, _-_, _*_, _/_, _%_, _^_, _≤_, _<_}
-use native.Mathlib.Decide.{decLt}
 use native.Mathlib.Nat.{mod-lt}
 use native.Mathlib.Omega.{arith}
 use mathlib.Core.Bool.{Bool, true, false, cond, _||_}
@@ -10,10 +9,8 @@ use mathlib.Core.List.{List}
 use mathlib.Core.Path.{_≡_, refl, sym, ap, subst, _∙_}
 use mathlib.Core.Option.{none}
 use lib.Arith.{digits-lt}
-use lib.Bits.{or-lt}
 use lib.Dec.{eqb}
 use lib.ListN.{length, take}
-use lib.Pow.{pow-lt}
 use borrow.Author.Tests.{le-ltb}
 use Rattle.schedule.specs.declared.FormRefusal.{FormRefusal}
 use Rattle.schedule.specs.Bounded.{withBit}
@@ -28,19 +25,20 @@ use Rattle.schedule.specs.Choice.{choiceForm}
 use Rattle.schedule.specs.Plan.{planForm}
 use Rattle.schedule.specs.Answers.{lengthNeeded, MeetsForm}
 use Rattle.schedule.specs.Numbers.{formNumber}
-use Rattle.laws.proofs.WordLaws.{with-or, with-high}
+use Rattle.laws.proofs.WordLaws.{with-lt}
 use Rattle.laws.proofs.FieldLaws.{field-lt}
-use Rattle.laws.proofs.Ranges.{below-lt, cores-lt, horizon-lt, delay-lt}
+use Rattle.laws.proofs.Ranges.{below-lt, cores-lt, horizon-lt, delay-lt, width-lt}
 use Rattle.laws.proofs.FirstBreak.{none-iff, hold-append, says, _&_}
 use Rattle.laws.proofs.PlanForm.{form-says}
 use Rattle.laws.proofs.Sound.{rowRules-sound, modelForm-sound}
-use Rattle.laws.proofs.Unrolled.{page-says, unrolls, limits-kept, ranges-kept, owners-kept, masks-kept}
+use Rattle.laws.proofs.Unrolled.{page-says, unrolls, limits-kept, ranges-kept, owners-kept, widths-kept, masks-kept}
 use Rattle.demands.specs.Rounds.{PagesUnroll, PagesAreUnrolled, OnePlan, AllPairsFit, SamePage}
 use Rattle.demands.proofs.Demand3.{demand-3}
 use Rattle.demands.proofs.SamePage.{rows-break}
 use Rattle.demands.proofs.SameAnswers.{same-answers}
-use Rattle.demands.proofs.ModelBytes.{Fits, Ends, length-modelBytes, bytes-modelBytes, reads-back}
-use Rattle.demands.proofs.ModelBytes.{single, reads-page, model-back}
+use Rattle.demands.proofs.ModelBytes.{Fits, length-modelBytes, bytes-modelBytes, reads-back}
+use Rattle.demands.proofs.ModelBytes.{version-one, version-three, version-known}
+use Rattle.demands.proofs.ModelBack.{Ends, single, reads-page, model-back}
 
 -- ---- the unrolled model is what the request says
 
@@ -58,16 +56,9 @@ pages-unroll s b h = unrolls (page s) (page-says s h) (λ j _. release-lt s b j)
 with-loop-lt : (k m q w : ℕ) → w < 2 ^ 32 → withLoop k m q w < 2 ^ 32
 with-loop-lt k m q w fits = one (eqb k 0 || eqb q noLoop)
   where
-    set : (b : ℕ) → withBit w b < 2 ^ 32
-    set b =
-        elim (decLt b 32) [
-          | yes l ↦ rw (with-or w b l) (or-lt 32 w (2 ^ b) fits (pow-lt l))
-          | no l ↦ rw (with-high w b (omega arith)) fits
-        ]
-
     one : (t : Bool) → cond t w (withBit w ((k - 1) * m + q)) < 2 ^ 32
     one true = fits
-    one false = set ((k - 1) * m + q)
+    one false = with-lt w ((k - 1) * m + q) fits
 
 model-fits : (s : List ℕ) → Bytes s → Fits (model s)
 unfolding model unrolled page
@@ -90,6 +81,7 @@ model-fits s b = record {
       let m : ℕ = p .plain .activities in
       with-loop-lt (x / m) m (p .loop (x % m)) (movedMask (x / m) m (p .plain .temporal-mask (x % m))) (mod-lt _ (omega arith)));
   data-mask = below-lt _ (2 ^ 32) _ (omega arith) (λ x. mod-lt _ (omega arith));
+  width = width-lt s b;
 }
 
 -- a field past the last row
@@ -110,6 +102,7 @@ model-ends s = record {
   delay = below-past _ _;
   temporal-mask = below-past _ _;
   data-mask = below-past _ _;
+  width = below-past _ _;
 }
 
 -- ---- its record meets the form rules
@@ -133,6 +126,7 @@ module _ (s : List ℕ) (b : Bytes s) (h : MeetsForm s) where
       & (λ _ _ _ _ several. absurd (omega arith))
       & (λ a _ l _. owners-kept (page s) formal a l)
       & (λ _ _ _ _ loops. absurd (loops refl))
+      & (λ a _ l _. widths-kept (page s) formal a l)
       & (λ a _ l _. masks-kept (page s) formal a l)
       & tt
 
@@ -148,10 +142,10 @@ module _ (s : List ℕ) (b : Bytes s) (h : MeetsForm s) where
       let back = reads-back m (model-fits s b) in
       let limits = limits-kept (page s) (page-says s h) in
       (λ _ _ _ _. (omega (arith, length-modelBytes m), back .length ∙ sym (length-modelBytes m)))
-      & (λ _ _ _ _. rw (back .version) (omega arith))
+      & (λ _ _ _ _. rw (back .version) (version-known m))
       & (λ _ _ _ _. rw (back .cores, back .threads, back .activities, back .horizon) limits)
       & (λ _ _ _ _. rw (back .version, back .threads, back .activities) (back .length))
-      & (λ _ _ _ _. rw (back .version, back .threads, back .activities) (omega (arith, limits)))
+      & (λ _ _ _ _. rw (back .version, back .rounds, back .threads, back .activities) (omega (arith, limits)))
       & tt
 
   formed : MeetsForm u
@@ -185,6 +179,7 @@ module _ (s : List ℕ) (b : Bytes s) (h : MeetsForm s) where
           delay = sym (same .delay _ l) ∙ moved .delay;
           temporal = λ r c other below. rw (← same .temporal-mask _ l) (moved .temporal r c other below);
           by-data = λ r c other below. rw (← same .data-mask _ l) (moved .by-data r c other below);
+          width = sym (same .width _ l) ∙ moved .width;
         };
   }
 
@@ -195,9 +190,14 @@ pages-are-unrolled s b h =
     let meets = formed s b h in
     let holds : firstBreak (modelForm s) ≡ none = none-iff (modelForm s) (modelForm-sound s) .1 h in
     let held : firstBreak (modelForm u) ≡ none = none-iff (modelForm u) (modelForm-sound u) .1 meets in
+    let version = reads-back (model s) (model-fits s b) .version in
+    let page-same = same s b h in
     record {
       bytes = bytes-modelBytes (model s);
-      version = reads-back (model s) (model-fits s b) .version;
+      version-1 = λ one. version ∙ version-one (model s) one;
+      version-3 = λ a l wide. version ∙ version-three (model s) a l wide;
+      one-round = sym (page-same .rounds);
+      no-loops = λ a l. sym (page-same .loop a (omega (arith, page-same .activities)));
       formed = meets;
       unrolls = same-unrolls s b h (pages-unroll s b h);
       same = same-answers s u (holds ∙ sym held) (sym (model-back (model s) (model-fits s b) (model-ends s)));
@@ -220,15 +220,16 @@ one-plan s q buffer b b′ h tested room =
 
 -- ---- the longest pair
 
--- a record of either version is at most as long as one of version 2
-longest : (version n m : ℕ) → modelLength version n m ≤ 11 + 10 * n + 16 * m
-longest version n m = one (eqb version 1)
+-- a record of any version is at most as long as one of version 3
+longest : (version n m : ℕ) → modelLength version n m ≤ 11 + 10 * n + 17 * m
+longest version n m = one (eqb version 1) (eqb version 2)
   where
-    one : (t : Bool) → cond t 10 11 + 10 * n + cond t (15 * m) (16 * m) ≤ 11 + 10 * n + 16 * m
-    one true = omega arith
-    one false = omega arith
+    one : (t t′ : Bool) → cond t 10 11 + 10 * n + cond t (15 * m) (cond t′ (16 * m) (17 * m)) ≤ 11 + 10 * n + 17 * m
+    one true t′ = omega arith
+    one false true = omega arith
+    one false false = omega arith
 
-model-most : (s : List ℕ) → MeetsForm s → length s ≤ 603
+model-most : (s : List ℕ) → MeetsForm s → length s ≤ 635
 unfolding modelForm form-rules
 model-most s h =
     let sized = says (formNumber FormRefusal.ModelSize) (modelForm s) h 0 0 (omega arith) (omega arith) in

@@ -4,19 +4,18 @@ use Prim.Native.Nat.{ℕ, _*_, _/_, _%_, _<_}
 use native.Mathlib.Decide.{decLt}
 use native.Mathlib.Nat.{mod-le}
 use native.Mathlib.Omega.{arith}
-use mathlib.Core.List.{List, _∷_}
-use mathlib.Core.Option.{Option, some, none}
 use mathlib.Core.Path.{_≡_, refl, sym, ap₂, fun-ext, _∙_}
 use borrow.Author.Tests.{lt-ltb, le-ltb}
-use Rattle.schedule.specs.Rule.{Rule, Refusal, break, firstBreak}
+use Rattle.schedule.specs.Rule.{firstBreak}
 use Rattle.schedule.specs.Rounds.{inAll, numberIn, movedRelease, movedMask, withLoop, below}
 use Rattle.schedule.specs.Model.{Model, Page, page, unrolled, model, rowRules, modelForm}
-use Rattle.schedule.specs.Model.{limitsRule, roundsRule, threadRule, periodRule, activityRule, loopRule, maskRule}
+use Rattle.schedule.specs.Model.{limitsRule, roundsRule, threadRule, periodRule, activityRule, loopRule, widthRule, maskRule}
 use Rattle.schedule.specs.Opened.{form-rules}
 use Rattle.laws.proofs.FirstBreak.{break-same, break-none}
 use Rattle.laws.proofs.Sound.{headRules-sound}
 use Rattle.laws.proofs.RoundLaws.{placed}
 use Rattle.demands.specs.Rounds.{SamePage, VersionsAgree}
+use Rattle.demands.proofs.BreakAlike.{cons-same}
 use Rattle.demands.proofs.SameAnswers.{same-answers}
 
 -- two models that say the same are the same
@@ -24,8 +23,9 @@ pub model-ext : (x y : Model) → x .cores ≡ y .cores → x .threads ≡ y .th
     → x .horizon ≡ y .horizon → x .least-period ≡ y .least-period → x .most-period ≡ y .most-period
     → x .least-release ≡ y .least-release → x .most-release ≡ y .most-release → x .priority ≡ y .priority
     → x .thread ≡ y .thread → x .least-duration ≡ y .least-duration → x .most-duration ≡ y .most-duration
-    → x .delay ≡ y .delay → x .temporal-mask ≡ y .temporal-mask → x .data-mask ≡ y .data-mask → x ≡ y
-model-ext x y a b c d e f g h i j k l m n o = λ at. record {
+    → x .delay ≡ y .delay → x .temporal-mask ≡ y .temporal-mask → x .data-mask ≡ y .data-mask
+    → x .width ≡ y .width → x ≡ y
+model-ext x y a b c d e f g h i j k l m n o p = λ at. record {
   cores = a at;
   threads = b at;
   activities = c at;
@@ -41,13 +41,8 @@ model-ext x y a b c d e f g h i j k l m n o = λ at. record {
   delay = m at;
   temporal-mask = n at;
   data-mask = o at;
+  width = p at;
 }
-
--- lists of rules that break alike, one by one
-cons-same : (r r′ : Rule) (rs rs′ : List Rule) → break r ≡ break r′ → firstBreak rs ≡ firstBreak rs′
-    → firstBreak (r ∷ rs) ≡ firstBreak (r′ ∷ rs′)
-unfolding firstBreak
-cons-same r r′ rs rs′ = ap₂ (λ (o rest : Option Refusal). elim o [ some x ↦ some x | none ↦ rest ])
 
 -- a field of i rounds of n rows each, from row x of round k
 abbrev pub rowsOf : ℕ → ℕ → (ℕ → ℕ → ℕ) → ℕ → ℕ
@@ -86,9 +81,12 @@ module _ (p q : Page) (same : SamePage p q) where
       (break-same (loopRule p) (loopRule q) refl (same .activities) refl
       (λ a _ l _. rw (same .loop a l, same .activities) refl))
       (cons-same _ _ _ _
+      (break-same (widthRule (p .plain)) (widthRule (q .plain)) refl (same .activities) refl
+      (λ a _ l _. rw (same .width a l, same .cores) refl))
+      (cons-same _ _ _ _
       (break-same (maskRule (p .plain)) (maskRule (q .plain)) refl (same .activities) refl
       (λ a _ l _. rw (same .temporal-mask a l, same .data-mask a l) refl))
-      refl))))
+      refl)))))
 
   -- each field of the unrolled model reads fields of one row, and the counts
   pub models-same : unrolled p ≡ unrolled q
@@ -129,8 +127,10 @@ module _ (p q : Page) (same : SamePage p q) where
       (rows-same _ _ _ _ (λ k x. movedMask k (p .plain .activities) (p .plain .data-mask x))
       (λ k x. movedMask k (q .plain .activities) (q .plain .data-mask x))
       (same .rounds) (same .activities) (λ k x l. ap₂ (movedMask k) (same .activities) (same .data-mask x l)))
+      (rows-same _ _ _ _ (λ _ x. p .plain .width x) (λ _ x. q .plain .width x)
+      (same .rounds) (same .activities) (λ _ x l. same .width x l))
 
--- the paper's two versions of one page: 1, 2 and 4 hold of both records, and the other rules break alike
+-- the papers' versions of one page: 1, 2 and 4 hold of both records, and the other rules break alike
 pub versions-agree : VersionsAgree
 unfolding model modelForm form-rules
 versions-agree s u hs hu same =

@@ -17,7 +17,8 @@ use Rattle.laws.proofs.Counting.{weight}
 use Rattle.laws.proofs.Formed.{model-says}
 use Rattle.laws.proofs.Lowest.{lowest-ext}
 use Rattle.laws.proofs.MachineLaws.{SameFor, ready-local, at, owes-first, end-first, owes-next, end-next, runs-selected}
-use Rattle.laws.proofs.Selection.{Before, selected-local}
+use Rattle.laws.proofs.Rank.{Before}
+use Rattle.laws.proofs.Selection.{selected-local}
 use Rattle.demands.specs.Urgent.{Below, Urgent, Apart, Alike, machineBit, Unaffected, PagesStand}
 use Rattle.demands.proofs.Page.{formed, written-made}
 
@@ -51,7 +52,7 @@ module _ (m : Model) (owner : (a : ℕ) → a < m .activities → m .thread a < 
       → machineBit m q t a ≡ machineBit m q′ t a
   runs-alike t same a l u =
       runs-selected m (q .release) (q .duration) t a l
-      ∙ selected-local m _ _ a (ready-alike t same a l u) (λ b lb h. ready-alike t same b lb (urgent-before b a h u))
+      ∙ selected-local m _ _ a l (ready-alike t same a l u) (λ b lb h. ready-alike t same b lb (urgent-before b a h u))
       ∙ sym (runs-selected m (q′ .release) (q′ .duration) t a l)
 
   always-same : (t : ℕ) → Same t

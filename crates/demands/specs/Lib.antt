@@ -5,5 +5,10 @@ pub mod Lateness
 pub mod Deadline
 pub mod Rule24
 pub mod Urgent
+pub mod FormerForm
+pub mod FormerMachine
+pub mod FormerChecks
+pub mod FormerAnswers
+pub mod Widths
 pub mod Rounds
 pub mod Exchange

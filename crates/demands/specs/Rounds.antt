@@ -1,5 +1,6 @@
 -- U4 of 02, "Several rounds on one page", as statements of every record: the page's model is the plain model unrolled, and the
--- page answers as the version 1 record of its unrolled model does.
+-- page answers as the record of one round of its unrolled model does, which is of version 1 where every width is 1, and of
+-- version 3 where some width is not (U7 of 02).
 -- Assumes nothing.
 use Prim.Native.Nat.{ℕ, _+_, _≤_, _<_}
 use mathlib.Core.List.{List, [], _∷_}
@@ -10,6 +11,7 @@ use lib.ListN.{length}
 use Rattle.schedule.specs.Fields.{field, Bytes}
 use Rattle.schedule.specs.Rule.{AllHold}
 use Rattle.schedule.specs.Records.{lengthRule, versionRule, formulaRule}
+use Rattle.schedule.specs.Rounds.{noLoop}
 use Rattle.schedule.specs.Model.{Page, page, model, modelLength, newestModel}
 use Rattle.schedule.specs.Unrolls.{Unrolls}
 use Rattle.schedule.specs.ModelBytes.{modelBytes}
@@ -18,6 +20,7 @@ use Rattle.schedule.specs.Answers.{MeetsForm, WellFormed, PassesTests}
 use Rattle.schedule.specs.Report.{reportAnswer, reportRows}
 use Rattle.schedule.specs.Streams.{inputLimit, viewRefusal, viewWord}
 use Rattle.demands.specs.Strict.{Passes, SingleStrictPlan, planWritten}
+use Rattle.demands.specs.Widths.{OfWidthOne}
 
 -- ---- the unrolled model is what the request says
 
@@ -39,11 +42,15 @@ pub record SameAnswers (s u : List ℕ) : Type 0 where
   pub rows : (q : List ℕ) (list : List ℤ) → reportRows s q list ≡ reportRows u q list
   pub passes : (q r : List ℕ) → Passes s q r ↔ Passes u q r
 
--- A record u of version 1 is that of a page's unrolled model: its bytes meet the form rules, the plain model that they say is
--- the page's unrolled, and the two records get the same answers.
+-- A record u is that of a page's unrolled model: its version is 1 where every width of the model is 1, and 3 where some width is
+-- not; it has one round and no loops; its bytes meet the form rules, the plain model that they say is the page's unrolled, and
+-- the two records get the same answers.
 pub record IsUnrolled (s u : List ℕ) : Type 0 where
   pub bytes : Bytes u
-  pub version : field u 4 1 ≡ 1
+  pub version-1 : OfWidthOne (model s) → field u 4 1 ≡ 1
+  pub version-3 : (a : ℕ) → a < model s .activities → ¬ (model s .width a ≡ 1) → field u 4 1 ≡ 3
+  pub one-round : page u .rounds ≡ 1
+  pub no-loops : (a : ℕ) → a < page u .plain .activities → page u .loop a ≡ noLoop
   pub formed : MeetsForm u
   pub unrolls : Unrolls (page s) (page u .plain)
   pub same : SameAnswers s u
@@ -84,6 +91,7 @@ pub record SamePage (p q : Page) : Type 0 where
   pub temporal-mask : (a : ℕ) → a < p .plain .activities → p .plain .temporal-mask a ≡ q .plain .temporal-mask a
   pub data-mask : (a : ℕ) → a < p .plain .activities → p .plain .data-mask a ≡ q .plain .data-mask a
   pub loop : (a : ℕ) → a < p .plain .activities → p .loop a ≡ q .loop a
+  pub width : (a : ℕ) → a < p .plain .activities → p .plain .width a ≡ q .plain .width a
 
 -- rules 1, 2 and 4, which speak of a record's own bytes and not of its page
 abbrev pub Sized : List ℕ → Type 0
@@ -94,18 +102,19 @@ Sized s = AllHold (
     ∷ [])
 
 -- records that pass these and say the same page, in one version or in two, get the same answers, refused or not: so a version
--- 2 record with i 1 and no loops answers as the version 1 record of the same page
+-- 2 record with i 1 and no loops answers as the version 1 record of the same page, and a version 3 record whose widths are all 1
+-- as the version 2 record of it
 abbrev pub VersionsAgree : Type 0
 VersionsAgree = (s u : List ℕ) → Sized s → Sized u → SamePage (page s) (page u) → SameAnswers s u
 
 -- ---- "later models are longer"
 
--- a model and a plan that is well-formed for it have at most 17,156 bytes together, a model and a choice at most 706: the
+-- a model and a plan that is well-formed for it have at most 17,188 bytes together, a model and a choice at most 738: the
 -- programs read either pair whole
 pub record PairsFit (s : List ℕ) : Type 0 where
-  pub with-plan : (r : List ℕ) → WellFormed s r → length s + length r ≤ 17156
-  pub with-choice : (q : List ℕ) → PassesTests s q → length s + length q ≤ 706
-  pub read-whole : 17156 ≤ inputLimit
+  pub with-plan : (r : List ℕ) → WellFormed s r → length s + length r ≤ 17188
+  pub with-choice : (q : List ℕ) → PassesTests s q → length s + length q ≤ 738
+  pub read-whole : 17188 ≤ inputLimit
 
 abbrev pub AllPairsFit : Type 0
 AllPairsFit = (s : List ℕ) → MeetsForm s → PairsFit s

@@ -1,0 +1,65 @@
+-- U7 of 02, "Activities that take several cores", of models whose activities take one core each: "older models have width 1", and
+-- all that is answered about a model of width 1 is what was answered before. And what the usage of every model is: "usage, demand
+-- 2's figure with it, is counted in core ticks".
+-- Assumes nothing.
+use Prim.Native.Nat.{ℕ, _*_, _<_}
+use mathlib.Core.List.{List}
+use mathlib.Core.Logic.{_⊎_}
+use mathlib.Core.Path.{_≡_}
+use lib.IntN.{ℤ}
+use Rattle.schedule.specs.Bounded.{total}
+use Rattle.schedule.specs.Fields.{field}
+use Rattle.schedule.specs.Rule.{firstBreak}
+use Rattle.schedule.specs.Model.{Model, model, modelForm}
+use Rattle.schedule.specs.Plan.{Plan}
+use Rattle.schedule.specs.Machine.{machineWord, machineStart, machineEnd, machineOwes}
+use Rattle.schedule.specs.Checks.{countOf}
+use Rattle.schedule.specs.Answers.{figures, plainVerdict, strictVerdict, runAnswer, runBuffer}
+use Rattle.schedule.specs.Report.{reportAnswer, reportRows}
+use Rattle.demands.specs.FormerForm
+use Rattle.demands.specs.FormerMachine
+use Rattle.demands.specs.FormerChecks
+use Rattle.demands.specs.FormerAnswers
+
+-- "width 1": each activity takes one core
+abbrev pub OfWidthOne : Model → Type 0
+OfWidthOne m = (a : ℕ) → a < m .activities → m .width a ≡ 1
+
+-- "older models have width 1": those of version 1 and 2, whatever else their bytes are
+abbrev pub Older : List ℕ → Type 0
+Older s = (field s 4 1 ≡ 1) ⊎ (field s 4 1 ≡ 2)
+
+abbrev pub OlderModels : Type 0
+OlderModels = (s : List ℕ) → Older s → OfWidthOne (model s)
+
+-- A record that is not of version 3 breaks the form rule that it broke before, at the same place, or none: 57 turns no older model
+-- away.
+abbrev pub SameForm : Type 0
+SameForm = (s : List ℕ) → ¬ (field s 4 1 ≡ 3) → firstBreak (modelForm s) ≡ firstBreak (FormerForm.modelForm s)
+
+-- All that is answered about a model's bytes is what was answered before: both verdicts, with their figures or with their number
+-- and place; the machine's words at every tick, its starts and ends, and what it owes; the run's answer and the lent buffer after
+-- it; the report's answer and the lent list after it.
+pub record AnswersAsBefore (s : List ℕ) : Type 0 where
+  pub plain : (r : List ℕ) → plainVerdict s r ≡ FormerChecks.plainVerdict s r
+  pub strict : (r : List ℕ) → strictVerdict s r ≡ FormerChecks.strictVerdict s r
+  pub words : (release duration : ℕ → ℕ) (t : ℕ)
+      → machineWord (model s) release duration t ≡ FormerMachine.machineWord (model s) release duration t
+  pub starts : (release duration : ℕ → ℕ) (a : ℕ)
+      → machineStart (model s) release duration a ≡ FormerMachine.machineStart (model s) release duration a
+  pub ends : (release duration : ℕ → ℕ) (a : ℕ)
+      → machineEnd (model s) release duration a ≡ FormerMachine.machineEnd (model s) release duration a
+  pub owed : (release duration : ℕ → ℕ) (a : ℕ)
+      → machineOwes (model s) release duration a ≡ FormerMachine.machineOwes (model s) release duration a
+  pub run : (q : List ℕ) (room : ℕ) → runAnswer s q room ≡ FormerAnswers.runAnswer s q room
+  pub buffer : (q buffer : List ℕ) → runBuffer s q buffer ≡ FormerAnswers.runBuffer s q buffer
+  pub report : (q : List ℕ) (lent : ℕ) → reportAnswer s q lent ≡ FormerAnswers.reportAnswer s q lent
+  pub rows : (q : List ℕ) (list : List ℤ) → reportRows s q list ≡ FormerAnswers.reportRows s q list
+
+-- of every model of width 1 throughout, refused or not, and beside every second record
+abbrev pub NoChange : Type 0
+NoChange = (s : List ℕ) → OfWidthOne (model s) → AnswersAsBefore s
+
+-- "counted in core ticks": an activity's ticks count as often as it takes cores, of every model and every plan
+abbrev pub InCoreTicks : Type 0
+InCoreTicks = (m : Model) (p : Plan) → figures m p .usage ≡ total (m .activities) (λ a. countOf m p a * m .width a)
