@@ -1,0 +1,108 @@
+//! The run, "as a plain machine".
+
+use std::cmp::Reverse;
+
+use super::form::{bits, plan_length, Choice, Model};
+use super::{figures, refuse, Figures, Refusal};
+
+pub(super) struct Machine {
+    pub(super) owed: Vec<u32>,
+    pub(super) start: Vec<u32>,
+    /// Of an activity that owes something, 0 and without meaning.
+    pub(super) end: Vec<u32>,
+    pub(super) words: Vec<u32>,
+}
+
+impl Machine {
+    pub(super) fn run(model: &Model, choice: &Choice) -> Machine {
+        let m = model.activities.len();
+        // Highest priority first, then lower number: the sort keeps equals in their order.
+        let mut ranked: Vec<usize> = (0..m).collect();
+        ranked.sort_by_key(|&a| Reverse(model.priority(a)));
+        let mut machine = Machine {
+            owed: choice.durations.clone(),
+            start: vec![0; m],
+            end: vec![0; m],
+            words: Vec::with_capacity(model.horizon as usize),
+        };
+        for t in 0..model.horizon {
+            let mut word = 0;
+            let mut free = model.cores;
+            for &a in &ranked {
+                if free == 0 {
+                    break;
+                }
+                if machine.ready(model, choice, a, t) {
+                    word |= 1 << a;
+                    free -= 1;
+                }
+            }
+            for a in bits(word) {
+                if machine.owed[a] == choice.durations[a] {
+                    machine.start[a] = t;
+                }
+                machine.owed[a] -= 1;
+                if machine.owed[a] == 0 {
+                    machine.end[a] = t + 1;
+                }
+            }
+            machine.words.push(word);
+        }
+        machine
+    }
+
+    fn ready(&self, model: &Model, choice: &Choice, a: usize, t: u32) -> bool {
+        let activity = &model.activities[a];
+        self.owed[a] > 0
+            && choice.threads[activity.thread].release <= t
+            && bits(activity.temporal).all(|b| self.owed[b] == 0 && self.end[b] + model.activities[b].delay <= t)
+            && bits(activity.data).all(|b| self.owed[b] == 0 && self.end[b] <= t)
+    }
+
+    /// 42
+    pub(super) fn all_ended(&self) -> Result<(), Refusal> {
+        match self.owed.iter().position(|&owed| owed > 0) {
+            Some(a) => refuse(42, a, 0),
+            None => Ok(()),
+        }
+    }
+
+    /// 43
+    fn all_in_time(&self, model: &Model, choice: &Choice) -> Result<(), Refusal> {
+        for (a, activity) in model.activities.iter().enumerate() {
+            if choice.threads[activity.thread].late(self.end[a]) {
+                return refuse(43, a, 0);
+            }
+        }
+        Ok(())
+    }
+
+    /// 42 and 43; on success the figures and the plan's length.
+    pub(super) fn judge(&self, model: &Model, choice: &Choice) -> Result<(Figures, u32), Refusal> {
+        self.all_ended()?;
+        self.all_in_time(model, choice)?;
+        let usage = self.words.iter().map(|word| word.count_ones()).sum();
+        Ok((figures(model, usage, &self.end, &choice.threads), plan_length(model) as u32))
+    }
+}
+
+pub(super) fn write_plan(model: &Model, choice: &Choice, machine: &Machine, out: &mut [u8]) {
+    let mut plan = Vec::with_capacity(out.len());
+    plan.extend((out.len() as u32).to_be_bytes());
+    plan.push(1);
+    plan.push(model.threads.len() as u8);
+    plan.push(model.activities.len() as u8);
+    plan.extend((model.horizon as u16).to_be_bytes());
+    for thread in &choice.threads {
+        plan.extend((thread.release as u16).to_be_bytes());
+        plan.extend((thread.period as u16).to_be_bytes());
+    }
+    for (start, end) in machine.start.iter().zip(&machine.end) {
+        plan.extend((*start as u16).to_be_bytes());
+        plan.extend((*end as u16).to_be_bytes());
+    }
+    for word in &machine.words {
+        plan.extend(word.to_be_bytes());
+    }
+    out.copy_from_slice(&plan);
+}
