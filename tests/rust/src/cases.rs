@@ -1,6 +1,6 @@
 //! Pairs of records for the comparison: sound ones, damaged ones, and plans that leave the rules in chosen places. A model
 //! stands with a plan for the checks or with a choice for the run and the report of lateness; a few pairs have the wrong
-//! one of the two. Half of the models are of version 1, the others of one to four rounds.
+//! one of the two. Models are of all versions, with one to four rounds, and many of those of version 3 have gangs.
 
 mod damage;
 mod pages;
@@ -8,7 +8,7 @@ mod plans;
 
 use crate::random::Random;
 use crate::records::{Choice, Model};
-pub(crate) use damage::damage_model;
+pub(crate) use damage::{damage_model, FORM_RULES};
 use damage::{damage_second_head, damaged_choice, damaged_model, damaged_plan, random_bytes, sound_case};
 pub(crate) use pages::model;
 use pages::{no_habits, page, set_periods, Page};
@@ -18,9 +18,8 @@ use plans::*;
 pub struct Case {
     pub kind: &'static str,
     pub model: Vec<u8>,
-    /// The record of version 1 of the unrolled model, which must be answered alike; none where the model is of version 1,
-    /// or damaged.
-    pub unrolled: Option<Vec<u8>>,
+    /// What the model was written from; none where it is damaged.
+    pub page: Option<Model>,
     pub second: Vec<u8>,
     /// Whether the two checks are asked.
     pub checked: bool,
@@ -28,6 +27,23 @@ pub struct Case {
     pub buffer: Option<Vec<u8>>,
     /// The list that is lent to the report, as it is before the call; the report is asked where the run is.
     pub rows: Option<Vec<i32>>,
+}
+
+impl Case {
+    /// Other models that must be answered alike: the unrolled one, and that of version 2 where version 3 has the width 1
+    /// alone.
+    pub fn alike(&self) -> Vec<Vec<u8>> {
+        let page = self.page.iter().filter(|page| page.rounds.is_some());
+        page.flat_map(|page| [Some(page.unrolled()), page.without_widths()])
+            .flatten()
+            .map(|model| model.bytes())
+            .collect()
+    }
+
+    /// Whether the model meets its form rules and has a width above 1.
+    pub fn has_gang(&self) -> bool {
+        self.page.as_ref().is_some_and(Model::has_gang)
+    }
 }
 
 type Maker = fn(&mut Random) -> Case;
@@ -60,6 +76,11 @@ const KINDS: &[(usize, &str, Maker)] = &[
     (4, "ties to the higher number", ties_to_higher),
     (4, "lazy", lazy),
     (5, "several habits", several_habits),
+    (4, "stops at a misfit", stops_at_misfit),
+    (3, "ones for widths", ones_for_widths),
+    (4, "rank by width", rank_by_width),
+    (5, "other widths", |random| altered_gangs(random, &[other_widths])),
+    (4, "moved tick of a page with gangs", |random| altered_gangs(random, &[moved_tick])),
 ];
 
 /// The case of this number.
@@ -124,8 +145,7 @@ fn plan_case(page: &Page) -> Case {
 
 /// A pair for no call yet.
 fn case(model: &Model, second: Vec<u8>) -> Case {
-    let unrolled = model.rounds.as_ref().map(|_| model.unrolled().bytes());
-    Case { kind: "", model: model.bytes(), unrolled, second, checked: false, buffer: None, rows: None }
+    Case { kind: "", model: model.bytes(), page: Some(model.clone()), second, checked: false, buffer: None, rows: None }
 }
 
 /// A plan where the run wants a choice, or a choice where the checks want a plan; all four calls are asked.

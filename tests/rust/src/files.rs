@@ -93,6 +93,7 @@ fn model(random: &mut Random) -> Model {
         model.activities[0].thread = 0;
         if let Some(rounds) = &mut model.rounds {
             rounds.loops = vec![random.pick(&[0, 255])];
+            rounds.widths.iter_mut().for_each(|widths| widths.truncate(1));
         }
     }
     model
@@ -199,7 +200,7 @@ fn damaged(random: &mut Random, sheaf: &mut Sheaf) {
         }
         _ => {
             let mut text = bytes.split_off(12);
-            let number = random.pick(&[1, 2, 3, 4, 51, 5, 52, 6, 53, 7]);
+            let number = random.pick(cases::FORM_RULES);
             cases::damage_model(random, number, &sheaf.model, &mut text);
             bytes.extend(text);
             set_length(bytes);

@@ -16,12 +16,14 @@ pub struct ActivityRow {
     pub data: u32,
 }
 
-/// What a model of version 2 has besides.
+/// What a model of version 2 or 3 has besides.
 #[derive(Clone, Debug)]
 pub struct Rounds {
     pub count: u8,
     /// The loop byte of each activity row.
     pub loops: Vec<u8>,
+    /// The width of each activity row, of version 3; none for version 2.
+    pub widths: Option<Vec<u8>>,
 }
 
 /// The loop byte of a row without a loop.
@@ -33,7 +35,7 @@ pub struct Model {
     pub horizon: u16,
     pub threads: Vec<ThreadRow>,
     pub activities: Vec<ActivityRow>,
-    /// Of version 2; none for version 1.
+    /// Of version 2 or 3; none for version 1.
     pub rounds: Option<Rounds>,
 }
 
@@ -82,8 +84,8 @@ fn push_pair(bytes: &mut Vec<u8>, pair: (u16, u16)) {
 
 impl Model {
     pub fn bytes(&self) -> Vec<u8> {
-        let version = if self.rounds.is_some() { 2 } else { 1 };
-        let mut bytes = vec![0, 0, 0, 0, version, self.cores, self.threads.len() as u8, self.activities.len() as u8];
+        let (version, n, m) = (self.version(), self.threads.len(), self.activities.len());
+        let mut bytes = vec![0, 0, 0, 0, version, self.cores, n as u8, m as u8];
         bytes.extend(self.horizon.to_be_bytes());
         bytes.extend(self.rounds.iter().map(|rounds| rounds.count));
         for thread in &self.threads {
@@ -98,8 +100,32 @@ impl Model {
             bytes.extend(activity.temporal.to_be_bytes());
             bytes.extend(activity.data.to_be_bytes());
             bytes.extend(self.rounds.iter().map(|rounds| rounds.loops[a]));
+            bytes.extend(self.widths().map(|widths| widths[a]));
         }
         with_length(bytes)
+    }
+
+    pub fn version(&self) -> u8 {
+        match &self.rounds {
+            None => 1,
+            Some(Rounds { widths: None, .. }) => 2,
+            Some(Rounds { widths: Some(_), .. }) => 3,
+        }
+    }
+
+    /// The widths of the rows, of version 3.
+    pub fn widths(&self) -> Option<&[u8]> {
+        self.rounds.as_ref()?.widths.as_deref()
+    }
+
+    /// The width of row `a`; 1 in versions 1 and 2.
+    pub fn width(&self, a: usize) -> u8 {
+        self.widths().map_or(1, |widths| widths[a])
+    }
+
+    /// Whether some width is above 1.
+    pub fn has_gang(&self) -> bool {
+        self.widths().is_some_and(|widths| widths.iter().any(|&width| width > 1))
     }
 
     /// How many rounds there are; one in version 1.
@@ -112,16 +138,25 @@ impl Model {
         9 + self.rounds() * 4 * (self.threads.len() + self.activities.len()) + 4 * usize::from(self.horizon)
     }
 
-    /// The unrolled model, of version 1, of a model that meets its form rules.
+    /// The unrolled model of a model that meets its form rules: of version 1, or with a gang of version 3, of one round
+    /// without loops and with each row's width in every round.
     pub fn unrolled(&self) -> Model {
         let rounds = 0..self.rounds();
         let rows = 0..self.activities.len();
+        let count = self.rounds() * self.activities.len();
+        let widths = self.widths().filter(|_| self.has_gang()).map(|widths| widths.repeat(self.rounds()));
         Model {
             threads: rounds.clone().flat_map(|k| self.threads.iter().map(move |thread| thread.moved(k))).collect(),
             activities: rounds.flat_map(|k| rows.clone().map(move |a| self.activity(a, k))).collect(),
-            rounds: None,
+            rounds: widths.map(|widths| Rounds { count: 1, loops: vec![NO_LOOP; count], widths: Some(widths) }),
             ..*self
         }
+    }
+
+    /// The record of version 2 of a model of version 3 whose widths are all 1.
+    pub fn without_widths(&self) -> Option<Model> {
+        let rounds = self.rounds.clone().filter(|rounds| rounds.widths.is_some() && !self.has_gang())?;
+        Some(Model { rounds: Some(Rounds { widths: None, ..rounds }), ..self.clone() })
     }
 
     /// Activity `a` of round `k`.

@@ -6,6 +6,7 @@
 mod form;
 mod machine;
 mod page;
+pub mod readings;
 
 use form::{plan_length, read_choice, read_model, read_plan, Chosen, Model};
 use machine::{write_plan, Machine};
@@ -22,7 +23,7 @@ pub struct Refusal {
 /// What a pass answers.
 #[derive(Clone, Copy, Debug, PartialEq, Eq)]
 pub struct Figures {
-    /// All ones of the grid.
+    /// The core ticks of the grid: each one counts as many as its activity is wide.
     pub usage: u32,
     /// Cores times horizon.
     pub capacity: u32,
@@ -30,7 +31,7 @@ pub struct Figures {
     pub makespan: u32,
 }
 
-/// The plain check: 1 to 14 with 51 to 53, then 21 to 29.
+/// The plain check: 1 to 14 with 51 to 53 and 57, then 21 to 29.
 pub fn check_plain(model: &[u8], plan: &[u8]) -> Result<Figures, Refusal> {
     let model = read_model(model)?;
     let plan = read_plan(&model, plan)?;
@@ -50,7 +51,7 @@ pub fn check_strict(model: &[u8], plan: &[u8]) -> Result<Figures, Refusal> {
     Ok(page.figures())
 }
 
-/// The form rules of a model alone: 1 to 7 with 51 to 53.
+/// The form rules of a model alone: 1 to 7 with 51 to 53 and 57.
 pub fn form(model: &[u8]) -> Result<(), Refusal> {
     read_model(model).map(|_| ())
 }
@@ -108,7 +109,9 @@ fn refuse<T>(number: u32, a: usize, b: usize) -> Result<T, Refusal> {
     Err(Refusal { number, a: a as u32, b: b as u32 })
 }
 
-fn figures(model: &Model, usage: u32, end: &[u32], threads: &[Chosen]) -> Figures {
+/// What a pass answers of these words, ends and releases; usage "is counted in core ticks" (02).
+fn figures(model: &Model, words: &[u32], end: &[u32], threads: &[Chosen]) -> Figures {
+    let usage = words.iter().map(|&word| model.load(word)).sum();
     let greatest_end = end.iter().copied().max().unwrap_or(0);
     let least_release = threads.iter().map(|thread| thread.release).min().unwrap_or(0);
     Figures { usage, capacity: model.cores * model.horizon, makespan: greatest_end - least_release }

@@ -29,7 +29,7 @@ fn model(priority: u16) -> Model {
 
 /// The smallest page of this many rounds, of 37 bytes; the loop byte is its last.
 fn page(count: u8, looped: u8) -> Model {
-    Model { rounds: Some(Rounds { count, loops: vec![looped] }), ..model(1) }
+    Model { rounds: Some(Rounds { count, loops: vec![looped], widths: None }), ..model(1) }
 }
 
 fn x() -> Vec<u8> {
@@ -338,7 +338,7 @@ fn refused_models() -> Vec<Vec<u8>> {
         Model { activities: activity(0, (1, 1), 1, 0), ..model(1) },
         Model { activities: activity(0, (1, 1), 0, 1), ..model(1) },
     ];
-    let bytes = [longer, put(x(), 4, 0), put(x(), 4, 3), put(x(), 3, 34), put(x(), 3, 36), x()[..9].to_vec(), vec![]];
+    let bytes = [longer, put(x(), 4, 0), put(x(), 4, 4), put(x(), 3, 34), put(x(), 3, 36), x()[..9].to_vec(), vec![]];
     models.iter().map(Model::bytes).chain(bytes).collect()
 }
 

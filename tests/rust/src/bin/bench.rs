@@ -179,7 +179,7 @@ fn four_rounds(horizon: usize) -> (Model, Choice) {
         horizon: horizon as u16,
         threads: vec![thread; 2],
         activities: (0..8).map(activity).collect(),
-        rounds: Some(Rounds { count: 4, loops: (0..8).collect() }),
+        rounds: Some(Rounds { count: 4, loops: (0..8).collect(), widths: None }),
     };
     let chosen = (0..8).map(|j| (j / 2 * period, period)).collect();
     (model, Choice { threads: chosen, durations: vec![period / 4; 32] })

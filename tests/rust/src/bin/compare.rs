@@ -1,9 +1,10 @@
 //! Compares the exports with the reference over many pairs of records: a model and a plan by both checks, a model and a
 //! choice by the run and by the report of lateness, with the whole of what these two were lent; the report is then held
-//! against the exported run, and a page of version 2 against the record of version 1 of its unrolled model. With each pair
-//! comes a pair or a file of wrapped models, of which the exports are asked which one stands; what they answer is then held
+//! against the exported run, and a page of version 2 or 3 against the record of its unrolled model, and against that of
+//! version 2 where version 3 has no width above 1. With each pair comes a pair or a file of wrapped models, of which the exports are asked which one stands; what they answer is then held
 //! against what 02 says of every file. It stops at the first difference, prints that case and exits with 1. It prints how
-//! often each call gave each answer, and exits with 1 if one that the call can give came fewer than a hundred times.
+//! often each call gave each answer, of all models and of those with a gang, and exits with 1 if one that the call can give
+//! came fewer than a hundred times.
 //!
 //! `compare [CASES]` tries cases 0 to CASES - 1, `compare FIRST..END` those from FIRST to END - 1, of which no number of
 //! answers is asked.
@@ -28,14 +29,20 @@ const LONGEST_PLAN: usize = 16_553;
 /// The row of an activity whose thread has no period.
 const DASH: i32 = -2_147_483_648;
 
-const CALLS: [&str; 6] = ["plain", "strict", "run", "lateness", "stands", "choose"];
+/// The calls, and once more those whose model has a width above 1.
+const CALLS: [&str; 10] =
+    ["plain", "strict", "run", "lateness", "stands", "choose", "plain*", "strict*", "run*", "lateness*"];
+/// How much later a call stands once more.
+const GANGS: usize = 6;
 /// How often each answer that a call can give must come.
 const LEAST: u64 = 100;
-/// What each call can answer, where 0 stands for accepted. 24 is out of the book (02): no call may answer it.
-const CHECKED: &[usize] = &[0, 1, 2, 3, 4, 51, 5, 52, 6, 53, 7, 8, 9, 10, 11, 12, 14, 21, 22, 23, 25, 26, 27, 28, 29];
+/// What a model is refused by.
+const MODEL: &[usize] = &[1, 2, 3, 4, 51, 5, 52, 6, 53, 57, 7];
+/// What each call can answer besides, where 0 stands for accepted. 24 is out of the book (02): no call may answer it.
+const CHECKED: &[usize] = &[0, 8, 9, 10, 11, 12, 14, 21, 22, 23, 25, 26, 27, 28, 29];
 const CHECKED_STRICTLY: &[usize] = &[30, 31];
-const RUN: &[usize] = &[0, 1, 2, 3, 4, 51, 5, 52, 6, 53, 7, 8, 9, 10, 11, 12, 13, 41, 42, 43];
-const LATENESS: &[usize] = &[0, 1, 2, 3, 4, 51, 5, 52, 6, 53, 7, 8, 9, 10, 11, 12, 13, 42, 43, 50];
+const RUN: &[usize] = &[0, 8, 9, 10, 11, 12, 13, 41, 42, 43];
+const LATENESS: &[usize] = &[0, 8, 9, 10, 11, 12, 13, 42, 43, 50];
 const EXCHANGED: &[usize] = &[0, 54, 55, 56];
 
 /// How often each number was answered, for each call.
@@ -52,13 +59,15 @@ impl Counts {
     }
 
     fn can_answer(call: usize, number: usize) -> bool {
-        match call {
-            0 => CHECKED.contains(&number),
-            1 => CHECKED.contains(&number) || CHECKED_STRICTLY.contains(&number),
-            2 => RUN.contains(&number),
-            3 => LATENESS.contains(&number),
-            _ => EXCHANGED.contains(&number),
-        }
+        let answers: &[&[usize]] = match call {
+            0 => &[MODEL, CHECKED],
+            1 => &[MODEL, CHECKED, CHECKED_STRICTLY],
+            2 => &[MODEL, RUN],
+            3 => &[MODEL, LATENESS],
+            4 | 5 => &[EXCHANGED],
+            _ => return Counts::can_answer(call - GANGS, number) && !MODEL.contains(&number),
+        };
+        answers.iter().any(|numbers| numbers.contains(&number))
     }
 
     fn print(&self) {
@@ -76,6 +85,7 @@ impl Counts {
             }
         }
         row("all", calls.map(|call| self.0[call].iter().sum::<u64>().to_string()));
+        println!("* of these, the model has a width above 1");
     }
 
     /// What is wrong with the counts: an answer reached too seldom, or one that the call cannot give.
@@ -126,6 +136,9 @@ fn compare(case: &Case, counts: &mut Counts) -> Result<(), String> {
             return Err(difference(case, CALLS[call], expected, answer));
         }
         counts.0[call][expected.number as usize] += 1;
+        if case.has_gang() {
+            counts.0[GANGS + call][expected.number as usize] += 1;
+        }
         Ok(())
     };
     let (model, second) = (&case.model, &case.second);
@@ -158,10 +171,7 @@ fn compare(case: &Case, counts: &mut Counts) -> Result<(), String> {
         }
         beside_the_run(case, before, answer, &rows)?;
     }
-    match &case.unrolled {
-        Some(unrolled) => beside_the_unrolled(case, unrolled),
-        None => Ok(()),
-    }
+    case.alike().iter().try_for_each(|other| answered_alike(case, other))
 }
 
 const EXPORTS: Calls = Calls { stands: proved::stands, choose: proved::choose };
@@ -188,8 +198,8 @@ fn compare_wrapped(case: &files::Case, counts: &mut Counts) -> Result<(), String
     claimed.map_err(|claim| format!("{}: {}\n{}\nnot so: {claim}\n{answer:?}", CALLS[call], case.kind, text()))
 }
 
-/// The exports answer and write the same for a page and for the record of version 1 of its unrolled model.
-fn beside_the_unrolled(case: &Case, unrolled: &[u8]) -> Result<(), String> {
+/// The exports answer and write the same for the model and for this one.
+fn answered_alike(case: &Case, other: &[u8]) -> Result<(), String> {
     let second = &case.second;
     let answers = |model: &[u8]| {
         let mut buffer = case.buffer.clone().unwrap_or_default();
@@ -198,9 +208,9 @@ fn beside_the_unrolled(case: &Case, unrolled: &[u8]) -> Result<(), String> {
         let filled = [proved::run(model, second, &mut buffer), proved::lateness(model, second, &mut rows)];
         (checked, filled, buffer, rows)
     };
-    let (page, plain) = (answers(&case.model), answers(unrolled));
-    if page != plain {
-        return Err(difference(case, "beside the unrolled model", plain, page));
+    let (page, alike) = (answers(&case.model), answers(other));
+    if page != alike {
+        return Err(difference(case, &format!("beside the model {}", hex(other)), alike, page));
     }
     Ok(())
 }
@@ -209,7 +219,7 @@ fn beside_the_unrolled(case: &Case, unrolled: &[u8]) -> Result<(), String> {
 /// aside, the first negative row is the activity of 43, and a good run has none.
 fn beside_the_run(case: &Case, before: &[i32], answer: Answer, rows: &[i32]) -> Result<(), String> {
     let run = proved::run(&case.model, &case.second, &mut [MARGIN_BYTE; LONGEST_PLAN]);
-    let from_input = (1..=13).contains(&run.number) || (51..=53).contains(&run.number);
+    let from_input = (8..=13).contains(&run.number) || MODEL.contains(&(run.number as usize));
     let expected = if before.len() < 32 && !from_input { Answer::refused(50, 0, 0) } else { run };
     if answer != expected {
         return Err(difference(case, "lateness beside the run", expected, answer));

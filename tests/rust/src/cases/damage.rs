@@ -11,14 +11,14 @@ pub(super) fn random_bytes(random: &mut Random) -> Case {
     if model.len() >= 10 && !random.one_in(4) {
         let n = random.within(0, 3);
         let m = random.within(0, 3);
-        let version = random.within(1, 2);
+        let version = random.within(1, 3) as u8;
         if !random.one_in(4) {
-            model.resize(first_row(version) + 10 * n + row_width(version) * m, 0);
+            model.resize(first_row(version) + 10 * n + row_length(version) * m, 0);
         }
         let cores = random.within(0, 9) as u8;
-        let head = [0, 0, 0, 0, version as u8, cores, n as u8, m as u8, 0, random.below(9) as u8];
+        let head = [0, 0, 0, 0, version, cores, n as u8, m as u8, 0, random.below(9) as u8];
         model[..10].copy_from_slice(&head);
-        if version == 2 && model.len() > 10 {
+        if version > 1 && model.len() > 10 {
             model[10] = random.within(0, 5) as u8;
         }
         set_length(&mut model);
@@ -30,17 +30,21 @@ pub(super) fn random_bytes(random: &mut Random) -> Case {
     }
     let length = random.below(60);
     let buffer = Some(random.bytes(length));
-    Case { kind: "", model, unrolled: None, second, checked: true, buffer, rows: None }
+    Case { kind: "", model, page: None, second, checked: true, buffer, rows: None }
 }
 
 /// Where the rows of a model of this version begin.
-fn first_row(version: usize) -> usize {
-    9 + version
+fn first_row(version: u8) -> usize {
+    if version == 1 {
+        10
+    } else {
+        11
+    }
 }
 
 /// The bytes of an activity row of this version.
-fn row_width(version: usize) -> usize {
-    14 + version
+fn row_length(version: u8) -> usize {
+    14 + usize::from(version)
 }
 
 /// A sound page as a run or as a plan.
@@ -53,10 +57,10 @@ pub(super) fn sound_case(random: &mut Random) -> (Page, Case) {
 pub(super) fn damaged_model(random: &mut Random) -> Case {
     let (page, mut case) = sound_case(random);
     for _ in 0..random.pick(&[1, 1, 2, 3]) {
-        let number = random.pick(&[1, 2, 3, 4, 51, 5, 52, 6, 53, 7]);
+        let number = random.pick(FORM_RULES);
         damage_model(random, number, &page.model, &mut case.model);
     }
-    case.unrolled = None;
+    case.page = None;
     match random.below(6) {
         0 => case.second.clear(),
         1 => damage_second_head(random, &mut case.second),
@@ -65,22 +69,25 @@ pub(super) fn damaged_model(random: &mut Random) -> Case {
     case
 }
 
-/// Breaks the form rule of this number, most of the time; 51 to 53 only in version 2.
+/// The form rules of a model, in their order.
+pub(crate) const FORM_RULES: &[usize] = &[1, 2, 3, 4, 51, 5, 52, 6, 53, 57, 7];
+
+/// Breaks the form rule of this number, most of the time; 51 to 53 from version 2 on, 57 in version 3.
 pub(crate) fn damage_model(random: &mut Random, number: usize, model: &Model, bytes: &mut Vec<u8>) {
     let n = model.threads.len();
     let m = model.activities.len();
-    let version = if model.rounds.is_some() { 2 } else { 1 };
-    let (head, width) = (first_row(version), row_width(version));
+    let version = model.version();
+    let (head, length) = (first_row(version), row_length(version));
     // An earlier damage may have changed the length.
-    if bytes.len() != head + 10 * n + width * m {
+    if bytes.len() != head + 10 * n + length * m {
         return;
     }
     let thread_row = head + 10 * random.below(n);
     let a = random.below(m);
-    let activity_row = head + 10 * n + width * a;
+    let activity_row = head + 10 * n + length * a;
     match number {
         1 => damage_length(random, bytes),
-        2 => bytes[4] = random.pick(&[0, 3 - version as u8, 3, 255]),
+        2 => bytes[4] = random.pick(&[0, version % 3 + 1, 4, 255]),
         3 => match random.below(4) {
             0 => bytes[5] = random.pick(&[0, 9, 255]),
             1 => bytes[6] = random.pick(&[0, 9, 255]),
@@ -113,7 +120,9 @@ pub(crate) fn damage_model(random: &mut Random, number: usize, model: &Model, by
         _ if version == 1 => {}
         51 => bytes[10] = random.pick(&[0, 5, 255, 8 / n as u8 + 1, 32 / m as u8 + 1]),
         52 => damage_moved_range(random, model.rounds(), &mut bytes[thread_row..]),
-        _ => bytes[activity_row + 15] = random.pick(&[m as u8, m as u8 + 1, 254]),
+        53 => bytes[activity_row + 15] = random.pick(&[m as u8, m as u8 + 1, 254]),
+        _ if version == 2 => {}
+        _ => bytes[activity_row + 16] = random.pick(&[0, model.cores + 1, 255]),
     }
 }
 

@@ -19,15 +19,36 @@ fn size(random: &mut Random) -> Size {
     }
 }
 
-/// A model that meets its form rules, with the longest horizon. It has periods only if there are several rounds.
+/// A model of any version that meets its form rules, with the longest horizon. It has periods only if there are several
+/// rounds.
 pub(crate) fn model(random: &mut Random) -> Model {
+    let version = random.pick(&[1, 1, 1, 2, 2, 3, 3, 3]);
+    model_of_version(random, version)
+}
+
+/// A model with a width above 1.
+fn gang_model(random: &mut Random) -> Model {
+    loop {
+        let model = model_of_version(random, 3);
+        if model.has_gang() {
+            return model;
+        }
+    }
+}
+
+fn model_of_version(random: &mut Random, version: u8) -> Model {
     let size = size(random);
-    let rounds = random.pick(&[None, None, None, None, Some(1), Some(2), Some(3), Some(4)]);
+    let rounds = match version {
+        1 => None,
+        2 => Some(random.within(1, 4)),
+        _ => Some(random.pick(&[1, 1, 2, 3, 4])),
+    };
     let most_threads = size.threads.min(8 / rounds.unwrap_or(1));
     let most_activities = size.activities.min(32 / rounds.unwrap_or(1));
     let n = if size.largest { most_threads } else { random.within(1, most_threads) };
     let m = if size.largest { most_activities } else { random.within(1, most_activities) };
     let cores = match random.below(8) {
+        _ if version == 3 => random.pick(&[1, 2, 2, 3, 3, 4, 4, 5, 6, 8]),
         0..=3 => 1,
         4..=5 => 2,
         6 => random.within(1, 4),
@@ -64,7 +85,11 @@ pub(crate) fn model(random: &mut Random) -> Model {
             }
         })
         .collect();
-    let rounds = rounds.map(|count| Rounds { count: count as u8, loops: loops(random, m) });
+    let rounds = rounds.map(|count| Rounds {
+        count: count as u8,
+        loops: loops(random, m),
+        widths: (version == 3).then(|| widths(random, m, cores)),
+    });
     Model { cores: cores as u8, horizon: 4096, threads, activities, rounds }
 }
 
@@ -85,6 +110,18 @@ fn loops(random: &mut Random, m: usize) -> Vec<u8> {
         _ => NO_LOOP,
     };
     (0..m).map(row).collect()
+}
+
+/// A width for each of `m` rows: all 1, 1 or all cores, about half of the cores, or any.
+fn widths(random: &mut Random, m: usize, cores: usize) -> Vec<u8> {
+    let kind = random.below(6);
+    let width = |_| match kind {
+        0 => 1,
+        1 => random.pick(&[1, 1, cores]),
+        2 => random.pick(&[1, cores.div_ceil(2), cores / 2 + 1]).min(cores),
+        _ => random.within(1, cores),
+    };
+    (0..m).map(width).map(|width| width as u8).collect()
 }
 
 /// A mask of bits below `limit`, each set once in `thinness` on average.
@@ -116,6 +153,10 @@ pub(super) struct Habits {
     pub(super) ties_to_higher: bool,
     /// Passes over a ready activity once in this many; 0 for never.
     pub(super) lazy: usize,
+    /// Ends the walk at the first ready activity that does not fit.
+    pub(super) stops_at_misfit: bool,
+    /// Takes as many activities as there are cores, whatever their widths.
+    pub(super) counts_ones: bool,
 }
 
 /// Fills a grid up to the tick at which nothing is owed, or to 4096 ticks.
@@ -133,6 +174,7 @@ fn fill(random: &mut Random, model: &Model, choice: &Choice, habits: &Habits) ->
     while words.len() < 4096 && end.contains(&None) {
         let t = words.len();
         let mut word = 0u32;
+        let mut free = usize::from(model.cores) + habits.more_cores;
         for &a in &order {
             let activity = &model.activities[a];
             let ended = |b: usize, delay: usize| end[b].is_some_and(|end| end + delay <= t);
@@ -145,11 +187,13 @@ fn fill(random: &mut Random, model: &Model, choice: &Choice, habits: &Habits) ->
             let release = usize::from(choice.threads[usize::from(activity.thread)].0);
             let ready =
                 owed[a] > 0 && (habits.ignores_release || release <= t) && (0..a).all(temporal) && (0..a).all(data);
-            if ready
-                && (word.count_ones() as usize) < usize::from(model.cores) + habits.more_cores
-                && !(habits.lazy > 0 && random.one_in(habits.lazy))
-            {
+            let width = if habits.counts_ones { 1 } else { model.width(a).into() };
+            if ready && width > free && habits.stops_at_misfit {
+                break;
+            }
+            if ready && width <= free && !(habits.lazy > 0 && random.one_in(habits.lazy)) {
                 word |= 1 << a;
+                free -= width;
             }
         }
         for a in 0..m {
@@ -172,9 +216,20 @@ pub(super) struct Page {
     pub(super) plan: Plan,
 }
 
-/// A page whose grid was filled with these habits; the horizon and the periods leave it room.
+/// A page whose grid was filled with these habits.
 pub(super) fn page(random: &mut Random, habits: fn(&mut Random, &Model) -> Habits) -> Page {
-    let mut model = model(random);
+    let model = model(random);
+    page_of(random, model, habits)
+}
+
+/// A page of a model with a gang.
+pub(super) fn gang_page(random: &mut Random, habits: fn(&mut Random, &Model) -> Habits) -> Page {
+    let model = gang_model(random);
+    page_of(random, model, habits)
+}
+
+/// A page of this model; the horizon and the periods leave the grid room.
+fn page_of(random: &mut Random, mut model: Model, habits: fn(&mut Random, &Model) -> Habits) -> Page {
     let mut choice = choice(random, &model.unrolled());
     let habits = habits(random, &model.unrolled());
     let mut words = fill(random, &model.unrolled(), &choice, &habits);

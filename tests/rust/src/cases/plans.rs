@@ -1,6 +1,6 @@
 //! Plans for the checks: the run's own, altered ones, and those whose grids were filled with other habits.
 
-use super::pages::{no_habits, page, set_periods, Habits, Page};
+use super::pages::{gang_page, no_habits, page, set_periods, Habits, Page};
 use super::{plan_case, Case};
 use crate::random::Random;
 use crate::records::{Model, Plan};
@@ -20,12 +20,23 @@ const ALTERATIONS: &[Alteration] = &[
     idle_tick,
     shorter_periods,
     other_durations,
+    other_widths,
     nudged_rows,
 ];
 
 /// The plan of the run, altered.
 pub(super) fn altered(random: &mut Random, alterations: &[Alteration]) -> Case {
-    let mut page = page(random, no_habits);
+    let page = page(random, no_habits);
+    altered_page(random, page, alterations)
+}
+
+/// The plan of the run of a model with a gang, altered.
+pub(super) fn altered_gangs(random: &mut Random, alterations: &[Alteration]) -> Case {
+    let page = gang_page(random, no_habits);
+    altered_page(random, page, alterations)
+}
+
+fn altered_page(random: &mut Random, mut page: Page, alterations: &[Alteration]) -> Case {
     for alteration in alterations {
         alteration(random, &mut page);
     }
@@ -134,6 +145,18 @@ pub(super) fn other_durations(random: &mut Random, page: &mut Page) {
     }
 }
 
+/// The words are those of other widths.
+pub(super) fn other_widths(random: &mut Random, page: &mut Page) {
+    let (m, cores) = (page.model.activities.len(), page.model.cores);
+    if let Some(widths) = page.model.rounds.as_mut().and_then(|rounds| rounds.widths.as_mut()) {
+        for _ in 0..random.within(1, 2) {
+            let a = random.below(m);
+            let near = if random.one_in(2) { widths[a] + 1 } else { widths[a].max(2) - 1 };
+            widths[a] = random.pick(&[near, near, 1, cores]).min(cores);
+        }
+    }
+}
+
 pub(super) fn shorter_periods(random: &mut Random, page: &mut Page) {
     let ends: Vec<usize> = page.plan.rows.iter().map(|row| row.1.into()).collect();
     set_periods(random, &mut page.model, &mut page.choice, &ends, 2);
@@ -182,6 +205,31 @@ pub(super) fn lazy(random: &mut Random) -> Case {
     plan_case(&page)
 }
 
+pub(super) fn stops_at_misfit(random: &mut Random) -> Case {
+    let page = gang_page(random, |_, _| Habits { stops_at_misfit: true, ..Habits::default() });
+    plan_case(&page)
+}
+
+pub(super) fn ones_for_widths(random: &mut Random) -> Case {
+    let page = gang_page(random, |_, _| Habits { counts_ones: true, ..Habits::default() });
+    plan_case(&page)
+}
+
+/// The narrowest or the widest first, or of equal priority only.
+pub(super) fn rank_by_width(random: &mut Random) -> Case {
+    let page = gang_page(random, |random, model| {
+        let widest = random.one_in(2);
+        let priorities = random.pick(&[0, 16]);
+        let rank = |a: usize| {
+            let width = usize::from(model.width(a));
+            let priority = usize::from(model.threads[usize::from(model.activities[a].thread)].priority);
+            priorities * priority + if widest { width } else { 8 - width }
+        };
+        Habits { rank: Some((0..model.activities.len()).map(rank).collect()), ..Habits::default() }
+    });
+    plan_case(&page)
+}
+
 pub(super) fn several_habits(random: &mut Random) -> Case {
     let page = page(random, |random, model| Habits {
         ignores_temporal: random.one_in(5),
@@ -192,6 +240,8 @@ pub(super) fn several_habits(random: &mut Random) -> Case {
         rank: if random.one_in(3) { any_rank(random, model) } else { None },
         ties_to_higher: random.one_in(3),
         lazy: random.pick(&[0, 0, 4]),
+        stops_at_misfit: random.one_in(5),
+        counts_ones: random.one_in(8),
     });
     plan_case(&page)
 }

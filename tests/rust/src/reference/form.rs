@@ -20,6 +20,8 @@ pub(super) struct Activity {
     pub(super) delay: u32,
     pub(super) temporal: u32,
     pub(super) data: u32,
+    /// How many cores it takes at each of its ticks.
+    pub(super) width: u32,
 }
 
 /// A plain model of one round.
@@ -33,6 +35,16 @@ pub(super) struct Model {
 impl Model {
     pub(super) fn priority(&self, a: usize) -> u32 {
         self.threads[self.activities[a].thread].priority
+    }
+
+    /// "By priority, highest first, then by lower activity number."
+    pub(super) fn ranks_before(&self, a: usize, b: usize) -> bool {
+        self.priority(a) > self.priority(b) || self.priority(a) == self.priority(b) && a < b
+    }
+
+    /// "The sum of active widths" (02), which the ones in a word have become.
+    pub(super) fn load(&self, word: u32) -> u32 {
+        bits(word).map(|a| self.activities[a].width).sum()
     }
 }
 
@@ -100,7 +112,7 @@ pub(super) fn plan_length(model: &Model) -> usize {
     9 + 4 * model.threads.len() + 4 * model.activities.len() + 4 * model.horizon as usize
 }
 
-/// What a model's record holds: "version 1 is one round without loops" (02).
+/// What a model's record holds: "version 1 is one round without loops", and "older models have width 1" (02).
 struct Written {
     /// The rows as they stand in the record.
     round: Model,
@@ -112,13 +124,14 @@ struct Written {
 /// The loop byte "for none".
 const NO_LOOP: u32 = 255;
 
-/// 1 to 7 and 51 to 53, then the unrolled model.
+/// 1 to 7, 51 to 53 and 57, then the unrolled model.
 pub(super) fn read_model(bytes: &[u8]) -> Result<Model, Refusal> {
     let written = read_written(bytes)?;
     written.thread_ranges()?;
     written.moved_releases()?;
     written.activity_ranges()?;
     written.loop_rows()?;
+    written.widths()?;
     written.masks()?;
     Ok(written.unrolled())
 }
@@ -129,9 +142,14 @@ fn read_written(bytes: &[u8]) -> Result<Written, Refusal> {
         return refuse(1, 0, 0);
     }
     let version = byte(bytes, 4);
-    if version != 1 && version != 2 {
-        return refuse(2, 0, 0);
-    }
+    // Version 2 "has after H a byte i, and each activity row ends with a loop byte"; version 3 is that "with a last byte in
+    // each activity row, its width".
+    let (head, row_length) = match version {
+        1 => (10, 15),
+        2 => (11, 16),
+        3 => (11, 17),
+        _ => return refuse(2, 0, 0),
+    };
     let cores = byte(bytes, 5);
     let n = byte(bytes, 6) as usize;
     let m = byte(bytes, 7) as usize;
@@ -139,9 +157,7 @@ fn read_written(bytes: &[u8]) -> Result<Written, Refusal> {
     if !(1..=8).contains(&cores) || !(1..=8).contains(&n) || !(1..=32).contains(&m) || !(1..=4096).contains(&horizon) {
         return refuse(3, 0, 0);
     }
-    // Version 2 "has after H a byte i, and each activity row ends with a loop byte".
-    let (head, width) = if version == 1 { (10, 15) } else { (11, 16) };
-    if bytes.len() != head + 10 * n + width * m {
+    if bytes.len() != head + 10 * n + row_length * m {
         return refuse(4, 0, 0);
     }
     let rounds = if version == 1 { 1 } else { byte(bytes, 10) as usize };
@@ -149,7 +165,7 @@ fn read_written(bytes: &[u8]) -> Result<Written, Refusal> {
         return refuse(51, 0, 0);
     }
     let (thread_rows, activity_rows) = bytes[head..].split_at(10 * n);
-    let activity_rows = activity_rows.chunks_exact(width);
+    let activity_rows = activity_rows.chunks_exact(row_length);
     let loop_byte = |row: &[u8]| if version == 1 { NO_LOOP } else { byte(row, 15) };
     Ok(Written {
         loops: activity_rows.clone().map(loop_byte).map(|q| (q != NO_LOOP).then_some(q as usize)).collect(),
@@ -173,6 +189,7 @@ fn read_thread(row: &[u8]) -> Thread {
     }
 }
 
+/// An activity row of any version; the loop byte is not the activity's.
 fn read_activity(row: &[u8]) -> Activity {
     Activity {
         thread: byte(row, 0) as usize,
@@ -181,6 +198,7 @@ fn read_activity(row: &[u8]) -> Activity {
         delay: short(row, 5),
         temporal: long(row, 7),
         data: long(row, 11),
+        width: if row.len() == 17 { byte(row, 16) } else { 1 },
     }
 }
 
@@ -244,6 +262,16 @@ impl Written {
         Ok(())
     }
 
+    /// 57: "a width of 0 or above c".
+    fn widths(&self) -> Result<(), Refusal> {
+        for (a, activity) in self.round.activities.iter().enumerate() {
+            if activity.width == 0 || activity.width > self.round.cores {
+                return refuse(57, a, 0);
+            }
+        }
+        Ok(())
+    }
+
     /// 7
     fn masks(&self) -> Result<(), Refusal> {
         for (a, activity) in self.round.activities.iter().enumerate() {
@@ -270,7 +298,7 @@ impl Written {
     }
 
     /// Activity a of round k: "masks move likewise", and "with loop byte q, activity q of round k is a temporal
-    /// predecessor of a in round k + 1".
+    /// predecessor of a in round k + 1". Its width is the row's in every round.
     fn activity_in_round(&self, a: usize, k: usize) -> Activity {
         let n = self.round.threads.len();
         let m = self.round.activities.len();

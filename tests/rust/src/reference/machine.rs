@@ -13,8 +13,34 @@ pub(super) struct Machine {
     pub(super) words: Vec<u32>,
 }
 
+/// "The run walks the ready in rank order and takes each whose width still fits" (02).
+fn walk(model: &Model, ready: &mut dyn Iterator<Item = usize>) -> u32 {
+    let mut word = 0;
+    let mut free = model.cores;
+    for a in ready {
+        let width = model.activities[a].width;
+        if width <= free {
+            word |= 1 << a;
+            free -= width;
+        }
+        if free == 0 {
+            break;
+        }
+    }
+    word
+}
+
 impl Machine {
     pub(super) fn run(model: &Model, choice: &Choice) -> Machine {
+        Machine::run_by(model, choice, |ready| walk(model, ready))
+    }
+
+    /// The run in which `take` gives the word of a tick, of the ready in rank order.
+    pub(super) fn run_by(
+        model: &Model,
+        choice: &Choice,
+        take: impl Fn(&mut dyn Iterator<Item = usize>) -> u32,
+    ) -> Machine {
         let m = model.activities.len();
         // Highest priority first, then lower number: the sort keeps equals in their order.
         let mut ranked: Vec<usize> = (0..m).collect();
@@ -26,29 +52,24 @@ impl Machine {
             words: Vec::with_capacity(model.horizon as usize),
         };
         for t in 0..model.horizon {
-            let mut word = 0;
-            let mut free = model.cores;
-            for &a in &ranked {
-                if free == 0 {
-                    break;
-                }
-                if machine.ready(model, choice, a, t) {
-                    word |= 1 << a;
-                    free -= 1;
-                }
-            }
-            for a in bits(word) {
-                if machine.owed[a] == choice.durations[a] {
-                    machine.start[a] = t;
-                }
-                machine.owed[a] -= 1;
-                if machine.owed[a] == 0 {
-                    machine.end[a] = t + 1;
-                }
-            }
-            machine.words.push(word);
+            let word = take(&mut ranked.iter().copied().filter(|&a| machine.ready(model, choice, a, t)));
+            machine.step(choice, t, word);
         }
         machine
+    }
+
+    /// Each of the word's activities owes one tick less, whatever its width: "durations still count ticks".
+    fn step(&mut self, choice: &Choice, t: u32, word: u32) {
+        for a in bits(word) {
+            if self.owed[a] == choice.durations[a] {
+                self.start[a] = t;
+            }
+            self.owed[a] -= 1;
+            if self.owed[a] == 0 {
+                self.end[a] = t + 1;
+            }
+        }
+        self.words.push(word);
     }
 
     fn ready(&self, model: &Model, choice: &Choice, a: usize, t: u32) -> bool {
@@ -81,8 +102,7 @@ impl Machine {
     pub(super) fn judge(&self, model: &Model, choice: &Choice) -> Result<(Figures, u32), Refusal> {
         self.all_ended()?;
         self.all_in_time(model, choice)?;
-        let usage = self.words.iter().map(|word| word.count_ones()).sum();
-        Ok((figures(model, usage, &self.end, &choice.threads), plan_length(model) as u32))
+        Ok((figures(model, &self.words, &self.end, &choice.threads), plan_length(model) as u32))
     }
 }
 

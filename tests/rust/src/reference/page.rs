@@ -34,7 +34,7 @@ impl<'a> Page<'a> {
     }
 
     pub(super) fn figures(&self) -> Figures {
-        figures(self.model, self.count.iter().sum(), &self.plan.end, &self.plan.threads)
+        figures(self.model, &self.plan.words, &self.plan.end, &self.plan.threads)
     }
 
     fn activities(&self) -> impl Iterator<Item = (usize, &'a Activity)> {
@@ -49,7 +49,7 @@ impl<'a> Page<'a> {
         self.plan.words[t as usize] >> a & 1 == 1
     }
 
-    fn waiting(&self, a: usize, t: usize) -> bool {
+    pub(super) fn waiting(&self, a: usize, t: usize) -> bool {
         let t = t as u32;
         let activity = &self.model.activities[a];
         let end = &self.plan.end;
@@ -60,16 +60,29 @@ impl<'a> Page<'a> {
             && bits(activity.data).all(|b| end[b] <= t)
     }
 
+    /// Whether an activity waits and counts in 29, 30 and 31: "only if its width is at most c less the widths of active
+    /// activities ranked before it" (02).
+    fn contends(&self, b: usize, t: usize) -> bool {
+        let before = |&a: &usize| self.model.ranks_before(a, b);
+        let taken: u32 = bits(self.plan.words[t]).filter(before).map(|a| self.model.activities[a].width).sum();
+        self.waiting(b, t) && taken + self.model.activities[b].width <= self.model.cores
+    }
+
     /// 21 to 29. Rule 24 is out of the book (02).
     pub(super) fn plain(&self) -> Result<(), Refusal> {
+        self.of_activities()?;
+        self.cores()?;
+        self.preemption()
+    }
+
+    /// 21 to 27.
+    pub(super) fn of_activities(&self) -> Result<(), Refusal> {
         self.window()?;
         self.duration()?;
         self.deadline()?;
         self.temporal_precedence()?;
         self.data_dependency()?;
-        self.earliest_start()?;
-        self.cores()?;
-        self.preemption()
+        self.earliest_start()
     }
 
     /// 21
@@ -148,7 +161,7 @@ impl<'a> Page<'a> {
     /// 28
     fn cores(&self) -> Result<(), Refusal> {
         for (t, word) in self.words() {
-            if word.count_ones() > self.model.cores {
+            if self.model.load(word) > self.model.cores {
                 return refuse(28, t, 0);
             }
         }
@@ -158,12 +171,12 @@ impl<'a> Page<'a> {
     /// 29
     fn preemption(&self) -> Result<(), Refusal> {
         for (t, word) in self.words() {
-            if word.count_ones() != self.model.cores {
+            if self.model.load(word) != self.model.cores {
                 continue;
             }
             let lowest = bits(word).map(|a| self.model.priority(a)).min();
             for (b, _) in self.activities() {
-                if Some(self.model.priority(b)) > lowest && self.waiting(b, t) {
+                if Some(self.model.priority(b)) > lowest && self.contends(b, t) {
                     return refuse(29, t, b);
                 }
             }
@@ -174,11 +187,11 @@ impl<'a> Page<'a> {
     /// 30
     pub(super) fn free_core(&self) -> Result<(), Refusal> {
         for (t, word) in self.words() {
-            if word.count_ones() >= self.model.cores {
+            if self.model.load(word) >= self.model.cores {
                 continue;
             }
             for (b, _) in self.activities() {
-                if self.waiting(b, t) {
+                if self.contends(b, t) {
                     return refuse(30, t, b);
                 }
             }
@@ -189,12 +202,12 @@ impl<'a> Page<'a> {
     /// 31
     pub(super) fn tie_order(&self) -> Result<(), Refusal> {
         for (t, word) in self.words() {
-            if word.count_ones() != self.model.cores {
+            if self.model.load(word) != self.model.cores {
                 continue;
             }
             for (b, _) in self.activities() {
                 let priority = self.model.priority(b);
-                if self.waiting(b, t) && bits(word).any(|a| a > b && self.model.priority(a) == priority) {
+                if self.contends(b, t) && bits(word).any(|a| a > b && self.model.priority(a) == priority) {
                     return refuse(31, t, b);
                 }
             }
