@@ -9,7 +9,9 @@ mod plans;
 use crate::random::Random;
 use crate::records::{Choice, Model};
 pub(crate) use damage::{damage_model, FORM_RULES};
-use damage::{damage_second_head, damaged_choice, damaged_model, damaged_plan, random_bytes, sound_case};
+use damage::{
+    damage_second_head, damaged_choice, damaged_model, damaged_plan, damaged_width, random_bytes, sound_case,
+};
 pub(crate) use pages::model;
 use pages::{no_habits, page, set_periods, Page};
 use plans::*;
@@ -53,6 +55,7 @@ const KINDS: &[(usize, &str, Maker)] = &[
     (2, "random bytes", random_bytes),
     (2, "the other record", other_record),
     (10, "damaged model", damaged_model),
+    (2, "damaged width", damaged_width),
     (10, "damaged choice", damaged_choice),
     (7, "damaged plan", damaged_plan),
     (12, "run", sound_run),
@@ -79,6 +82,7 @@ const KINDS: &[(usize, &str, Maker)] = &[
     (4, "stops at a misfit", stops_at_misfit),
     (3, "ones for widths", ones_for_widths),
     (4, "rank by width", rank_by_width),
+    (6, "other priorities of gangs", other_priorities_of_gangs),
     (5, "other widths", |random| altered_gangs(random, &[other_widths])),
     (4, "moved tick of a page with gangs", |random| altered_gangs(random, &[moved_tick])),
 ];

@@ -1,8 +1,8 @@
 //! An independent program of the papers' rules (`reference` and `exchange`), the exports of the proved code (`proved`) and
 //! what is needed to compare them. From this package's folder, where `rt` makes the archive as part of the build:
 //!
-//! - `cargo test --release`: the paper's cases, pages of several rounds, wrapped models and the solutions of source
-//!   document 000, with both programs
+//! - `cargo test --release`: the paper's cases, pages of several rounds, gangs, wrapped models and the solutions of source
+//!   document 000, with both programs, and random pages beside readings that are nearly the paper's
 //! - `cargo run --release --bin compare`: many pairs of records and files, with a table of the answers reached
 //! - `cargo run --release --bin bench`: the times of both
 

@@ -32,6 +32,11 @@ fn page(count: u8, looped: u8) -> Model {
     Model { rounds: Some(Rounds { count, loops: vec![looped], widths: None }), ..model(1) }
 }
 
+/// The smallest page of two cores with this width, of 38 bytes; the width is its last.
+fn gang(width: u8) -> Model {
+    Model { cores: 2, rounds: Some(Rounds { count: 1, loops: vec![NO_LOOP], widths: Some(vec![width]) }), ..model(1) }
+}
+
 fn x() -> Vec<u8> {
     model(1).bytes()
 }
@@ -211,6 +216,9 @@ fn other_bytes_at_equal_rank() {
     let looped = |q| with_model(page(1, q).bytes());
     pair(&looped(0), &looped(NO_LOOP), refused(56, 1));
     pair(&live(1), &looped(NO_LOOP), refused(56, 1));
+    let wide = |width| with_model(gang(width).bytes());
+    pair(&wide(1), &wide(2), refused(56, 1));
+    file(&[&wide(2), &wide(2), &wide(1)], refused(56, 2));
     file(&[&looped(NO_LOOP), &live(1)], refused(56, 1));
 }
 
@@ -335,6 +343,9 @@ fn refused_models() -> Vec<Vec<u8>> {
         Model { activities: activity(0, (0, 1), 0, 0), ..model(1) },
         page(1, 1),
         page(2, 254),
+        gang(0),
+        gang(3),
+        gang(255),
         Model { activities: activity(0, (1, 1), 1, 0), ..model(1) },
         Model { activities: activity(0, (1, 1), 0, 1), ..model(1) },
     ];
@@ -356,6 +367,15 @@ fn models_refused() {
         pair(&with_model(model.clone()), &live(1), refused(54, 0));
         file(&[&live(2), &with_model(model)], refused(54, 1));
     }
+}
+
+#[test]
+fn pages_with_gangs() {
+    let record = wrapped(SERIES, 2, LIVE, gang(2).bytes());
+    pair(&live(1), &record, Part::standing(1, 0, 50));
+    pair(&record, &live(1), Part::standing(0, 0, 50));
+    file(&[&live(1), &record], Part::standing(1, 47, 50));
+    file(&[&record, &live(1), &withdrawn(2)], Part::standing(2, 97, 47));
 }
 
 #[test]
@@ -416,6 +436,7 @@ struct Reached {
     copies_behind: usize,
     other_bytes_passed_over: usize,
     long: usize,
+    version_3_chosen: usize,
     refused_late: usize,
     refused_with_more_behind: usize,
 }
@@ -445,13 +466,15 @@ impl Reached {
         self.other_bytes_passed_over +=
             usize::from(pieces.iter().any(|one| pieces.iter().any(|other| one[9..12] == other[9..12] && one != other)));
         self.long += usize::from(pieces.len() > 20);
+        self.version_3_chosen += usize::from(chosen[16] == 3);
     }
 
     fn least(&self) -> usize {
         let pairs = [self.first, self.second, self.copies];
         let chosen = [self.later_chosen, self.withdrawn_over_live, self.withdrawn_passed_over, self.copies_behind];
-        let others = [self.other_bytes_passed_over, self.long, self.refused_late, self.refused_with_more_behind];
-        pairs.into_iter().chain(chosen).chain(others).min().unwrap_or(0)
+        let others = [self.other_bytes_passed_over, self.long, self.version_3_chosen];
+        let refused = [self.refused_late, self.refused_with_more_behind];
+        pairs.into_iter().chain(chosen).chain(others).chain(refused).min().unwrap_or(0)
     }
 }
 

@@ -1,6 +1,6 @@
 //! Damaged records.
 
-use super::pages::{no_habits, page, Page};
+use super::pages::{gang_page, no_habits, page, Page};
 use super::{plan_case, run_case, Case};
 use crate::random::Random;
 use crate::records::{set_length, Model, ThreadRow};
@@ -66,6 +66,18 @@ pub(super) fn damaged_model(random: &mut Random) -> Case {
         1 => damage_second_head(random, &mut case.second),
         _ => {}
     }
+    case
+}
+
+/// A model with a gang, of which one width or two are damaged, and now and then another part.
+pub(super) fn damaged_width(random: &mut Random) -> Case {
+    let page = gang_page(random, no_habits);
+    let mut case = if random.one_in(2) { run_case(random, &page.model, &page.choice) } else { plan_case(&page) };
+    let other = random.pick(FORM_RULES);
+    for number in random.pick(&[&[57][..], &[57, 57], &[57, other]]) {
+        damage_model(random, *number, &page.model, &mut case.model);
+    }
+    case.page = None;
     case
 }
 

@@ -69,7 +69,8 @@ fn model_of_version(random: &mut Random, version: u8) -> Model {
         })
         .collect();
     let delays = random.pick(&[0, 0, 3, 6]);
-    let thinness = random.pick(&[2, 4, 8, 32, 1000]);
+    // With few predecessors many activities wait for a core, so that gangs meet.
+    let thinness = if version == 3 { random.pick(&[4, 32, 1000]) } else { random.pick(&[2, 4, 8, 32, 1000]) };
     let activities = (0..m)
         .map(|a| {
             let least = random.within(1, size.duration) as u16;

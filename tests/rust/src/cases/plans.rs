@@ -195,6 +195,11 @@ pub(super) fn other_priorities(random: &mut Random) -> Case {
     plan_case(&page)
 }
 
+pub(super) fn other_priorities_of_gangs(random: &mut Random) -> Case {
+    let page = gang_page(random, |random, model| Habits { rank: any_rank(random, model), ..Habits::default() });
+    plan_case(&page)
+}
+
 pub(super) fn ties_to_higher(random: &mut Random) -> Case {
     let page = page(random, |_, _| Habits { ties_to_higher: true, ..Habits::default() });
     plan_case(&page)

@@ -18,18 +18,7 @@ impl<'a> Page<'a> {
                 count[a] += 1;
             }
         }
-        // A predecessor has a lower number, so its efe is already there.
-        let mut efe: Vec<u32> = Vec::new();
-        for activity in &model.activities {
-            let mut earliest = plan.threads[activity.thread].release;
-            for b in bits(activity.temporal) {
-                earliest = earliest.max(efe[b] + count[b] + model.activities[b].delay);
-            }
-            for b in bits(activity.data) {
-                earliest = earliest.max(efe[b] + count[b]);
-            }
-            efe.push(earliest);
-        }
+        let efe = earliest_starts(model, plan, &count);
         Page { model, plan, count, efe }
     }
 
@@ -214,4 +203,21 @@ impl<'a> Page<'a> {
         }
         Ok(())
     }
+}
+
+/// efe of each activity, by the counts.
+pub(super) fn earliest_starts(model: &Model, plan: &Plan, count: &[u32]) -> Vec<u32> {
+    // A predecessor has a lower number, so its efe is already there.
+    let mut efe: Vec<u32> = Vec::new();
+    for activity in &model.activities {
+        let mut earliest = plan.threads[activity.thread].release;
+        for b in bits(activity.temporal) {
+            earliest = earliest.max(efe[b] + count[b] + model.activities[b].delay);
+        }
+        for b in bits(activity.data) {
+            earliest = earliest.max(efe[b] + count[b]);
+        }
+        efe.push(earliest);
+    }
+    efe
 }

@@ -3,8 +3,9 @@
 
 use super::form::{bits, read_choice, read_model, read_plan, Choice, Model};
 use super::machine::Machine;
-use super::page::Page;
+use super::page::{earliest_starts, Page};
 use super::{refuse, Figures, Refusal};
+use Difference::*;
 
 /// A thing in which a reading may differ.
 #[derive(Clone, Copy, Debug, PartialEq, Eq)]
@@ -15,8 +16,10 @@ pub enum Difference {
     FirstOfTheReady,
     /// The walk is by width, the widest first, and then by rank.
     WidestFirst,
-    /// An activity owes as much less at each tick as it is wide.
+    /// Durations count core ticks: an activity owes as much less at each tick as it is wide.
     DurationsInCoreTicks,
+    /// efe counts core ticks.
+    EfeInCoreTicks,
     /// Activities of later rounds have width 1.
     WidthsOfRound0,
     /// Ones for the sum of widths, in one place each.
@@ -29,6 +32,10 @@ pub enum Difference {
     EveryWaitingCounts,
     /// A waiting activity counts only beside all that are active.
     FitsBesideAll,
+    /// What waits and ranks before a waiting activity takes from what is left, as what is active does.
+    WaitingTakesToo,
+    /// What is active and has a lower number ranks before a waiting activity, whatever its priority.
+    BeforeByNumberAlone,
     /// One that is active with the priority of the waiting one does not rank before it, whatever its number.
     BeforeByPriorityAlone,
     /// One that is active with the priority of the waiting one ranks before it, whatever its number.
@@ -39,14 +46,13 @@ pub enum Difference {
     Rule29WithFreeCores,
 }
 
-use Difference::*;
-
 /// Each difference alone.
-pub const DIFFERENCES: [Difference; 16] = [
+pub const DIFFERENCES: [Difference; 19] = [
     StopsAtMisfit,
     FirstOfTheReady,
     WidestFirst,
     DurationsInCoreTicks,
+    EfeInCoreTicks,
     WidthsOfRound0,
     OnesIn28,
     OnesIn29,
@@ -55,6 +61,8 @@ pub const DIFFERENCES: [Difference; 16] = [
     OnesInUsage,
     EveryWaitingCounts,
     FitsBesideAll,
+    WaitingTakesToo,
+    BeforeByNumberAlone,
     BeforeByPriorityAlone,
     BeforeAtEqualPriority,
     WidthBelowWhatIsLeft,
@@ -68,10 +76,21 @@ pub const ONES_OF_THE_WORD: &[Difference] =
 /// The answers of the plain and of the strict check.
 pub type Verdicts = [Result<Figures, Refusal>; 2];
 
-pub fn check(model: &[u8], plan: &[u8], reading: &[Difference]) -> Result<Verdicts, Refusal> {
+pub fn check(model: &[u8], plan: &[u8], reading: &[Difference]) -> Verdicts {
+    verdicts(model, plan, reading).unwrap_or_else(|refusal| [Err(refusal); 2])
+}
+
+fn verdicts(model: &[u8], plan: &[u8], reading: &[Difference]) -> Result<Verdicts, Refusal> {
     let model = model_of(model, reading)?;
     let plan = read_plan(&model, plan)?;
-    let page = Page::new(&model, &plan);
+    let mut page = Page::new(&model, &plan);
+    let core_ticks: Vec<u32> = page.count.iter().zip(&model.activities).map(|(ticks, a)| ticks * a.width).collect();
+    if reading.contains(&EfeInCoreTicks) {
+        page.efe = earliest_starts(&model, &plan, &core_ticks);
+    }
+    if reading.contains(&DurationsInCoreTicks) {
+        page.count = core_ticks;
+    }
     let ticks = Ticks { page: &page, reading };
     let figures = |()| Figures { usage: usage(&model, &plan.words, reading), ..page.figures() };
     let plain = page.of_activities().and_then(|()| ticks.first_broken(&[28, 29]));
@@ -79,12 +98,18 @@ pub fn check(model: &[u8], plan: &[u8], reading: &[Difference]) -> Result<Verdic
     Ok([plain.map(figures), strict.map(figures)])
 }
 
-/// The answer of the run with room enough, and the machine's words.
-pub fn run(
-    model: &[u8],
-    choice: &[u8],
-    reading: &[Difference],
-) -> Result<(Result<Figures, Refusal>, Vec<u32>), Refusal> {
+/// The answer of the run with room enough, and the machine's words, finished or not; none where a record is refused.
+pub fn run(model: &[u8], choice: &[u8], reading: &[Difference]) -> (Result<Figures, Refusal>, Vec<u32>) {
+    match records(model, choice, reading) {
+        Ok((model, choice)) => {
+            let machine = Machine::run_by(&model, &choice, |ready| take(&model, ready.collect(), reading));
+            (judge(&model, &choice, &machine, reading), machine.words)
+        }
+        Err(refusal) => (Err(refusal), Vec::new()),
+    }
+}
+
+fn records(model: &[u8], choice: &[u8], reading: &[Difference]) -> Result<(Model, Choice), Refusal> {
     let model = model_of(model, reading)?;
     let mut choice = read_choice(&model, choice)?;
     if reading.contains(&DurationsInCoreTicks) {
@@ -92,9 +117,7 @@ pub fn run(
             *duration = duration.div_ceil(activity.width);
         }
     }
-    let machine = Machine::run_by(&model, &choice, |ready| take(&model, ready.collect(), reading));
-    let answer = judge(&model, &choice, &machine, reading);
-    Ok((answer, machine.words))
+    Ok((model, choice))
 }
 
 fn model_of(bytes: &[u8], reading: &[Difference]) -> Result<Model, Refusal> {
@@ -190,21 +213,25 @@ impl Ticks<'_> {
     fn counts(&self, b: usize, t: usize, word: u32) -> bool {
         let model = self.page.model;
         let width = |a: usize| model.activities[a].width;
-        let taken: u32 = bits(word).filter(|&a| self.takes_from(a, b)).map(width).sum();
+        let takes = |a: &usize| word >> a & 1 == 1 || self.reads(WaitingTakesToo) && self.page.waiting(*a, t);
+        let taken: u32 =
+            (0..model.activities.len()).filter(takes).filter(|&a| self.ranks_before(a, b)).map(width).sum();
         let below = u32::from(self.reads(WidthBelowWhatIsLeft));
         let fits = self.reads(EveryWaitingCounts) || taken + width(b) + below <= model.cores;
         fits && self.page.waiting(b, t)
     }
 
-    /// Whether the width of active `a` is taken from what is left for `b`.
-    fn takes_from(&self, a: usize, b: usize) -> bool {
+    /// Whether `a` ranks before `b`, so that its width is taken from what is left.
+    fn ranks_before(&self, a: usize, b: usize) -> bool {
         let model = self.page.model;
         let equal = model.priority(a) == model.priority(b);
-        let lower_number = match equal {
-            _ if self.reads(BeforeByPriorityAlone) => false,
-            _ if self.reads(BeforeAtEqualPriority) => true,
-            _ => a < b,
-        };
-        self.reads(FitsBesideAll) || model.priority(a) > model.priority(b) || equal && lower_number
+        let higher = model.priority(a) > model.priority(b);
+        match () {
+            _ if self.reads(FitsBesideAll) => true,
+            _ if self.reads(BeforeByNumberAlone) => a < b,
+            _ if self.reads(BeforeByPriorityAlone) => higher,
+            _ if self.reads(BeforeAtEqualPriority) => higher || equal,
+            _ => higher || equal && a < b,
+        }
     }
 }
