@@ -77,7 +77,7 @@ def model_form():
             "refused 1 0 0",
             misread=f"1 compares {bits} bits",
         )
-    case("version 3", s_model(version=3), S_PLAN, "refused 2 0 0")
+    case("version 4", s_model(version=4), S_PLAN, "refused 2 0 0")
     case("version 0, and c 0: 2 comes first", s_model(cores=0, version=0), S_PLAN, "refused 2 0 0")
     case("c 0", s_model(cores=0), S_PLAN, "refused 3 0 0")
     case("c 9", s_model(cores=9), S_PLAN, "refused 3 0 0")

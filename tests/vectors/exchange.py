@@ -5,6 +5,7 @@ Every answer is a literal, worked out by hand from the request: of a pair which 
 one chosen with its offset and length, or the refusal. The part is the record so named, an empty one for a refusal.
 """
 from records import activity, model, number, put, thread, wrapped
+from gangs import wide
 from rounds import NO_LOOP, page
 
 PAIRS = []  # (title of a part,) or (first, second, lines, part, shows, answer, misreading)
@@ -13,12 +14,14 @@ FILES = []  # (title of a part,) or (file, lines, part, shows, answer, misreadin
 SERIES = 0x01020304
 OTHER = 0x01020314  # another series
 
-# Three texts: the smallest models, of 35 bytes, wrapped 47, and pages of one round, of 37 bytes, wrapped 49. Z ends with
-# its loop byte.
+# Four texts: the smallest models, of 35 bytes, wrapped 47, pages of one round, of 37 bytes, wrapped 49, and pages of version
+# 3, of 38 bytes, wrapped 50. Z ends with its loop byte, W with its width.
 X = model(1, 1, [thread(1)], [activity(0)])
 Y = model(1, 1, [thread(2)], [activity(0)])
 Z = page(1, 1, 1, [thread(1)], [(activity(0), NO_LOOP)])
 Z_LOOPED = page(1, 1, 1, [thread(1)], [(activity(0), 0)])
+W = wide(2, [2])
+W_NARROW = wide(2, [1])
 
 
 def live(issue, text=X, series=SERIES):
@@ -83,6 +86,8 @@ def pairs_refused():
     pair_refused("live 1 with two texts", live(1), live(1, Y), "56 1 0", "the first where only issue and flag are equal")
     pair_refused("live 1 with two texts that differ in the last byte", live(1, Z), live(1, Z_LOOPED), "56 1 0",
                  "the last byte left out, or lengths compared")
+    pair_refused("live 1 with two texts that differ in a width", live(1, W), live(1, W_NARROW), "56 1 0",
+                 "the width left out")
     pair_refused("the first's length one more than the bytes given", of_length(live(1), 48), live(1), "54 0 0",
                  "the length left out in a pair")
     pair_refused("the second's one less: a byte behind it", live(1), live(2) + b"\0", "54 1 0",
@@ -111,6 +116,7 @@ def chosen():
     file("live 1, live 2, live 2", [live(1), live(2), live(2)], 1, 47, 47, "the last copy")
     file("live 1, live 2 with a page of version 2", [live(1), live(2, Z)], 1, 47, 49,
          "models of version 1 only, or records of one length")
+    file("live 1, live 2 with a page of version 3", [live(1), live(2, W)], 1, 47, 50, "models of versions 1 and 2 only")
     # 21 records
     issues = [*range(1, 19), 20, 5, 19]
     file("issues 1 to 18, 20, 5, 19", [live(issue) for issue in issues], 18, 846, 47, "each against the one before it")
@@ -167,6 +173,7 @@ def contents():
         ("51", page(1, 1, 5, [thread(1)], [(activity(0), NO_LOOP)]), "the form rules of 01 only"),
         ("52", UNEQUAL, "the form rules of 01 only"),
         ("53", page(1, 1, 1, [thread(1)], [(activity(0), 1)]), "the form rules of 01 only"),
+        ("57", wide(2, [3]), "the form rules before version 3 only"),
     )
     for rule, text, misread in models:
         file_refused(f"a model that {rule} refuses", [live(1, text)], "54 0 0", misread)

@@ -74,7 +74,7 @@ def late_or_owed():
 # models that 1 to 7 refuse
 REFUSED_MODELS = [
     (b"", "1 0 0"),
-    (s_model(version=3), "2 0 0"),
+    (s_model(version=4), "2 0 0"),
     (s_model(cores=0), "3 0 0"),
     (longer(S), "4 0 0"),
     (s_model(threads=replaced(S_THREADS, 1, thread(3, period=(9, 8)))), "5 1 0"),

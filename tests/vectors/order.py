@@ -10,7 +10,7 @@ from records import activity, longer, model, plan, put, replaced, s_model, s_pla
 
 def form_rules():
     part("Which refusal comes first: 1 to 12")
-    both = put(s_model(version=3), 0, 4, len(S) + 1)
+    both = put(s_model(version=4), 0, 4, len(S) + 1)
     case("a model's length and version", both, S_PLAN, "refused 1 0 0", misread="2 before 1")
     case("c 0 and a byte behind the last row", longer(s_model(cores=0)), S_PLAN, "refused 3 0 0", misread="4 before 3")
     period = s_model(threads=replaced(S_THREADS, 1, thread(3, period=(9, 8))))

@@ -105,11 +105,15 @@ def late(figures):
 # ---- the checks
 
 
-def checked():
-    checks.part("Several rounds: the plans that the run makes")
-    for shows, model_bytes, chosen, _, grid, _, figures, misread in PAGES:
+def check_pages(title, pages):
+    checks.part(title)
+    for shows, model_bytes, chosen, _, grid, _, figures, misread in pages:
         answer = f"refused 23 {figures} 0" if late(figures) else f"accepted {figures}"
         checks.case(shows, model_bytes, plan(chosen, grid), answer, misread=misread)
+
+
+def checked():
+    check_pages("Several rounds: the plans that the run makes", PAGES)
 
 
 def broken():
@@ -169,7 +173,7 @@ def versions():
     case = checks.case
     case("S with version byte 2", s_model(version=2), S_PLAN, "refused 4 0 0", misread="2, as in paper 01")
     case("a page with version byte 1", put(OWN, 4, 1, 1), OWN_PLAN, "refused 4 0 0", misread="4 without the version")
-    case("a page with version byte 3", put(OWN, 4, 1, 3), OWN_PLAN, "refused 2 0 0",
+    case("a page with version byte 4", put(OWN, 4, 1, 4), OWN_PLAN, "refused 2 0 0",
          misread="every version above 1 read as 2")
     case("a page with version byte 0", put(OWN, 4, 1, 0), OWN_PLAN, "refused 2 0 0")
     case("10 bytes of version 2", number(4, 10) + b"\2\1\1\1\0\x08", OWN_PLAN, "refused 4 0 0", misread="1 under 11 bytes")
@@ -275,15 +279,19 @@ def form_order():
 # ---- the run
 
 
-def run():
-    runs.part("several rounds")
-    for shows, model_bytes, chosen, durations, grid, _, figures, misread in PAGES:
+def run_pages(title, pages):
+    runs.part(title)
+    for shows, model_bytes, chosen, durations, grid, _, figures, misread in pages:
         length = len(plan(chosen, grid))
         before = runs.buffer(length + 3)
         if late(figures):
             runs.cleared(shows, model_bytes, choice(chosen, durations), before, length, f"43 {figures} 0", misread)
         else:
             runs.accepted(shows, model_bytes, chosen, durations, before, grid, figures, misread)
+
+
+def run():
+    run_pages("several rounds", PAGES)
 
 
 def run_refused():
@@ -335,11 +343,15 @@ def listed(rows):
     return ", ".join("-" if row == NONE else str(row) for row in rows)
 
 
-def report():
-    lateness.part("several rounds")
-    for shows, model_bytes, chosen, durations, _, rows, figures, misread in PAGES:
+def report_pages(title, pages):
+    lateness.part(title)
+    for shows, model_bytes, chosen, durations, _, rows, figures, misread in pages:
         answer = f"refused 43 {figures} 0" if late(figures) else f"accepted {figures}"
         lateness.written(f"{shows}: {listed(rows)}", model_bytes, choice(chosen, durations), 33, rows, answer, misread)
+
+
+def report():
+    report_pages("several rounds", PAGES)
     for shows, model_bytes, answer in REFUSED:
         lateness.kept(f"{shows}, 31 rows", model_bytes, choice(OWN_CHOSEN, [2, 2]), 31, answer, "50 before it")
     lateness.kept("31 rows", OWN, choice(OWN_CHOSEN, [2, 2]), 31, "50 0 0")
