@@ -1,9 +1,10 @@
-/* The six calls of include/grid.h on model S, with its records read from samples/.
+/* The six calls of include/grid.h on model S, and the four of a model on G, with their records read from samples/.
  *
  * usage: calls FOLDER
  *
- * FOLDER has S.model, S.plan, S-early.plan and S.choice. Each answer, every byte of the lent buffer and every row of the
- * lent list are compared with the papers'; the first difference ends the program with a message and status 1.
+ * FOLDER has S.model, S.plan, S-early.plan, S.choice, G.model, G.plan and G.choice. Each answer, every byte of the lent
+ * buffer and every row of the lent list are compared with the papers'; the first difference ends the program with a message
+ * and status 1.
  */
 #include "grid.h"
 
@@ -208,6 +209,25 @@ static void exchange(const Record *model)
     part("an empty file", chosen(&file), 54, 0, 0, 0);
 }
 
+/* Model G, of version 3: activity 1 takes both cores. */
+static void gangs(const char *folder)
+{
+    static const int32_t rows[] = {INT32_MIN, 2, INT32_MIN};
+    const Record plan = record(folder, "G.plan"), choice = record(folder, "G.choice");
+    Record model = record(folder, "G.model");
+    const uint32_t length = (uint32_t)plan.length;
+
+    check("G's plan", &model, &plan, accepted(9, 12, 5, 0), accepted(9, 12, 5, 0));
+    run("G's choice", &model, &choice, plan.length, accepted(9, 12, 5, length), plan.bytes, plan.length);
+    lateness("G's report", &model, &choice, ROWS, accepted(9, 12, 5, length), rows, 3);
+    model.bytes[74] = 3; /* the width of activity 1 */
+    check("width 3 of 2 cores", &model, &plan, refused(57, 1, 0), refused(57, 1, 0));
+    run("width 3 of 2 cores for the run", &model, &choice, plan.length, refused(57, 1, 0), plan.bytes, 0);
+    lateness("width 3 of 2 cores for the report", &model, &choice, ROWS, refused(57, 1, 0), rows, 0);
+    model.bytes[74] = 1; /* the walk passes over nothing */
+    check("width 1", &model, &plan, refused(29, 0, 1), refused(29, 0, 1));
+}
+
 int main(int count, char **words)
 {
     static const uint8_t zeros[PLAN];
@@ -266,6 +286,7 @@ int main(int count, char **words)
     lateness("a chosen period of 5 for the report", &other, &choice, ROWS, refused(43, 2, 0), late_rows, 3);
 
     exchange(&model);
+    gangs(words[1]);
 
     printf("calls: %d answers as expected\n", done);
     return 0;

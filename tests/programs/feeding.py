@@ -16,6 +16,7 @@ LIMIT = 17189  # "at most 17,189 bytes of standard input"
 WAIT = 20  # seconds after which a program counts as hanging
 MODEL = pathlib.Path("samples/S.model").read_bytes()
 CHOICE = pathlib.Path("samples/S.choice").read_bytes()
+GANGS = pathlib.Path("samples/G.model").read_bytes()
 
 
 def be(value, size):
@@ -42,23 +43,25 @@ def run_refused(number, a=0, b=0):
 
 
 def largest_model(ticks, priorities=bytes(8), periods=bytes(8), version=1):
-    """The longest model of a version, 570 or 603 bytes: 8 cores, 8 threads, 32 activities of so many ticks, H 4096. No
-    predecessors, and in version 2 one round without loops."""
-    length, rounds, loop = [(570, b"", b""), (603, b"\x01", b"\xff")][version - 1]
+    """The longest model of a version, 570, 603 or 635 bytes: 8 cores, 8 threads, 32 activities of so many ticks, H 4096. No
+    predecessors, from version 2 on one round without loops, and in version 3 each activity takes all cores."""
+    length, rounds, last = [(570, b"", b""), (603, b"\x01", b"\xff"), (635, b"\x01", b"\xff\x08")][version - 1]
     threads = (be(period, 2) + be(period, 2) + bytes(4) + be(p, 2) for p, period in zip(priorities, periods))
     model = be(length, 4) + bytes([version, 8, 8, 32]) + be(4096, 2) + rounds + b"".join(threads)
-    return model + b"".join(bytes([a % 8]) + be(ticks, 2) + be(ticks, 2) + bytes(10) + loop for a in range(32))
+    return model + b"".join(bytes([a % 8]) + be(ticks, 2) + be(ticks, 2) + bytes(10) + last for a in range(32))
 
 
-def largest_pair(ticks, priorities=bytes(8), periods=bytes(8)):
-    """The longest model of version 1 and its choice, 570 and 103 bytes. All releases are 0."""
+def largest_pair(ticks, priorities=bytes(8), periods=bytes(8), version=1):
+    """The longest model of a version and its choice, of 103 bytes. All releases are 0."""
     choice = be(103, 4) + bytes([1, 8, 32]) + b"".join(bytes(2) + be(period, 2) for period in periods)
-    return largest_model(ticks, priorities, periods) + choice + 32 * be(ticks, 2)
+    return largest_model(ticks, priorities, periods, version) + choice + 32 * be(ticks, 2)
 
 
-def largest_words(ticks):
-    """Its words where all priorities are equal: activities 0 to 7 first, then 8 to 15, and so on."""
-    return [0xff << 8 * (t // ticks) if t < 4 * ticks else 0 for t in range(4096)]
+def largest_words(ticks, version=1):
+    """Its words where all priorities are equal: activities 0 to 7 first, then 8 to 15, and so on; in version 3 one by one."""
+    abreast = 1 if version == 3 else 8
+    first = (1 << abreast) - 1
+    return [first << abreast * (t // ticks) if t < 32 // abreast * ticks else 0 for t in range(4096)]
 
 
 def stopped(program):
@@ -149,7 +152,9 @@ class Fed:
         self.run("S with H 5", patched(MODEL, 8, be(5, 2)) + CHOICE, run_refused(42, 2))
         self.run("release 3 for thread 0", MODEL + patched(CHOICE, 7, be(3, 2)), run_refused(12))
         self.run("duration 3 for activity 0", MODEL + patched(CHOICE, 15, be(3, 2)), run_refused(13))
-        self.run("a model of version 3", patched(MODEL, 4, [3]) + CHOICE, run_refused(2))
+        self.run("a model of version 4", patched(MODEL, 4, [4]) + CHOICE, run_refused(2))
+        self.run("version 3 in the record of version 1", patched(MODEL, 4, [3]) + CHOICE, run_refused(4))
+        self.run("width 3 of 2 cores in activity 1's row", patched(GANGS, 74, [3]) + CHOICE, run_refused(57, 1))
         self.run("temporal mask 2 in activity 1's row", patched(MODEL, 52, be(2, 4)) + CHOICE, run_refused(7, 1))
 
     def parts(self, pair, refused):
