@@ -58,7 +58,8 @@ def largest_pair(ticks, priorities=bytes(8), periods=bytes(8), version=1):
 
 
 def largest_words(ticks, version=1):
-    """Its words where all priorities are equal: activities 0 to 7 first, then 8 to 15, and so on; in version 3 one by one."""
+    """Its words where all priorities are equal: activities 0 to 7 first, then 8 to 15, and so on; in version 3 one by
+    one."""
     abreast = 1 if version == 3 else 8
     first = (1 << abreast) - 1
     return [first << abreast * (t // ticks) if t < 32 // abreast * ticks else 0 for t in range(4096)]

@@ -2,7 +2,8 @@
 //! what is needed to compare them. From this package's folder, where `rt` makes the archive as part of the build:
 //!
 //! - `cargo test --release`: the paper's cases, pages of several rounds, gangs, wrapped models and the solutions of source
-//!   document 000, with both programs, and random pages beside readings that are nearly the paper's
+//!   document 000, with both programs, every grid of small models with gangs, and random pages beside readings that are
+//!   nearly the paper's
 //! - `cargo run --release --bin compare`: many pairs of records and files, with a table of the answers reached
 //! - `cargo run --release --bin bench`: the times of both
 

@@ -8,7 +8,7 @@ use std::hint::black_box;
 use std::process::ExitCode;
 use std::time::{Duration, Instant};
 
-use grid_tests::records::{ActivityRow, Choice, Model, Rounds, ThreadRow, Wrapped};
+use grid_tests::records::{ActivityRow, Choice, Model, Rounds, ThreadRow, Wrapped, NO_LOOP};
 use grid_tests::{exchange, proved, reference, Answer, Part};
 
 /// A page with its records; the plan is the run's own, so that all four calls accept.
@@ -130,6 +130,7 @@ const PAGES: &[(&str, usize)] = &[
     ("single", 4096),
     ("rounds", 4096),
     ("unrolled", 4096),
+    ("gangs", 4096),
     ("middle", 1024),
     ("middle", 256),
     ("small", 64),
@@ -145,6 +146,7 @@ fn page(name: &str, horizon: usize) -> Page {
     match name {
         "rounds" => written(&model, &choice),
         "unrolled" => written(&model.unrolled(), &choice),
+        "gangs" => gangs(horizon),
         _ => shaped(name, horizon),
     }
 }
@@ -166,6 +168,31 @@ fn shaped(name: &str, horizon: usize) -> Page {
         .collect();
     let model = Model { cores: shape.cores, horizon: horizon as u16, threads, activities, rounds: None };
     written(&model, &Choice { threads: vec![(0, horizon as u16); shape.threads.into()], durations })
+}
+
+/// 16 activities of width 1 before 16 of widths 1 to 4, of 8 priorities; one that does not fit is passed over at many ticks.
+fn gangs(horizon: usize) -> Page {
+    let threads = (0..8).map(|j| ThreadRow { period: (0, 0), release: (0, 0), priority: 10 * j }).collect();
+    let activity = |a: u8| ActivityRow {
+        thread: a % 8,
+        duration: (1, 65535),
+        delay: 0,
+        temporal: if a < 16 { 0 } else { below(16) },
+        data: 0,
+    };
+    let model = Model {
+        cores: 8,
+        horizon: horizon as u16,
+        threads,
+        activities: (0..32).map(activity).collect(),
+        rounds: Some(Rounds {
+            count: 1,
+            loops: vec![NO_LOOP; 32],
+            widths: Some((0..32).map(|a| if a < 16 { 1 } else { 1 + a % 4 }).collect()),
+        }),
+    };
+    let durations = (0..32).map(|a| if a < 16 { 1 } else { (horizon / 6) as u16 }).collect();
+    written(&model, &Choice { threads: vec![(0, 0); 8], durations })
 }
 
 /// Four rounds of 2 threads and 8 activities, each after itself in the round before; the period is a quarter of the horizon.
@@ -316,6 +343,9 @@ fn table() {
     }
     println!("rounds: 4 rounds of 8 activities, each after itself in the round before; cores 8, threads 2, activities 8 a round");
     println!("unrolled: the version 1 record of the same model");
+    println!(
+        "gangs: 16 activities of one tick before 16 long ones of widths 1 to 4; cores 8, threads 8, activities 32"
+    );
 }
 
 /// One call, many times.
