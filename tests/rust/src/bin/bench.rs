@@ -131,6 +131,7 @@ const PAGES: &[(&str, usize)] = &[
     ("rounds", 4096),
     ("unrolled", 4096),
     ("gangs", 4096),
+    ("narrow", 4096),
     ("middle", 1024),
     ("middle", 256),
     ("small", 64),
@@ -146,7 +147,8 @@ fn page(name: &str, horizon: usize) -> Page {
     match name {
         "rounds" => written(&model, &choice),
         "unrolled" => written(&model.unrolled(), &choice),
-        "gangs" => gangs(horizon),
+        "gangs" => gangs(horizon, |a| if a < 16 { 1 } else { 1 + a % 4 }),
+        "narrow" => gangs(horizon, |_| 1),
         _ => shaped(name, horizon),
     }
 }
@@ -170,8 +172,9 @@ fn shaped(name: &str, horizon: usize) -> Page {
     written(&model, &Choice { threads: vec![(0, horizon as u16); shape.threads.into()], durations })
 }
 
-/// 16 activities of width 1 before 16 of widths 1 to 4, of 8 priorities; one that does not fit is passed over at many ticks.
-fn gangs(horizon: usize) -> Page {
+/// 16 activities of one tick before 16 long ones of these widths, of 8 priorities. With widths 1 to 4 one that does not fit is
+/// passed over at many ticks.
+fn gangs(horizon: usize, width: impl Fn(u8) -> u8) -> Page {
     let threads = (0..8).map(|j| ThreadRow { period: (0, 0), release: (0, 0), priority: 10 * j }).collect();
     let activity = |a: u8| ActivityRow {
         thread: a % 8,
@@ -185,11 +188,7 @@ fn gangs(horizon: usize) -> Page {
         horizon: horizon as u16,
         threads,
         activities: (0..32).map(activity).collect(),
-        rounds: Some(Rounds {
-            count: 1,
-            loops: vec![NO_LOOP; 32],
-            widths: Some((0..32).map(|a| if a < 16 { 1 } else { 1 + a % 4 }).collect()),
-        }),
+        rounds: Some(Rounds { count: 1, loops: vec![NO_LOOP; 32], widths: Some((0..32).map(width).collect()) }),
     };
     let durations = (0..32).map(|a| if a < 16 { 1 } else { (horizon / 6) as u16 }).collect();
     written(&model, &Choice { threads: vec![(0, 0); 8], durations })
@@ -343,9 +342,8 @@ fn table() {
     }
     println!("rounds: 4 rounds of 8 activities, each after itself in the round before; cores 8, threads 2, activities 8 a round");
     println!("unrolled: the version 1 record of the same model");
-    println!(
-        "gangs: 16 activities of one tick before 16 long ones of widths 1 to 4; cores 8, threads 8, activities 32"
-    );
+    println!("gangs: 16 short activities before 16 long ones of widths 1 to 4; cores 8, threads 8, activities 32");
+    println!("narrow: the same with every width 1");
 }
 
 /// One call, many times.
