@@ -4,7 +4,6 @@ use Prim.Native.Nat.{ℕ, _+_, _*_}
 use mathlib.Core.List.{List}
 use mathlib.Core.Path.{_≡_, refl, sym, _∙_}
 use lib.ListN.{getD}
-use Rattle.schedule.specs.Model.{widthAt}
 use Rattle.fields.proofs.ReadLaws.{field-one, field-two, field-two-at, field-four-at}
 use Rattle.records.specs.Rows.{threadFields, activityFields}
 
@@ -30,8 +29,8 @@ thread-read s at a b c d e p q r t u =
       u ∙ field-two-at s at 8,
     ) refl
 
-pub activity-read : (s : List ℕ) (at a b c d e f g : ℕ) → a ≡ getD s at 0 → b ≡ two s at 1 → c ≡ two s at 3
-    → d ≡ two s at 5 → e ≡ four s at 7 → f ≡ four s at 11 → g ≡ widthAt s at
+pub activity-read : (s : List ℕ) (at a b c d e f : ℕ) → a ≡ getD s at 0 → b ≡ two s at 1 → c ≡ two s at 3
+    → d ≡ two s at 5 → e ≡ four s at 7 → f ≡ four s at 11
     → record {
       thread = record { 0 = a };
       «least_duration» = b;
@@ -39,10 +38,9 @@ pub activity-read : (s : List ℕ) (at a b c d e f g : ℕ) → a ≡ getD s at 
       delay = d;
       «temporal_mask» = e;
       «data_mask» = f;
-      width = g;
     } ≡ activityFields s at
 unfolding activityFields
-activity-read s at a b c d e f g p q r t u v w =
+activity-read s at a b c d e f p q r t u v =
     rw (
       p ∙ sym (field-one s at),
       q ∙ field-two-at s at 1,
@@ -50,5 +48,4 @@ activity-read s at a b c d e f g p q r t u v w =
       t ∙ field-two-at s at 5,
       u ∙ field-four-at s at 7,
       v ∙ field-four-at s at 11,
-      w,
     ) refl

@@ -69,7 +69,6 @@ module _ (s : List ℕ) (n rounds all : ℕ) (r : rounds ≡ page s .rounds) (a 
           delay = 0;
           «temporal_mask» = 0;
           «data_mask» = 0;
-          width = 0;
         } ≡ activityRowOf (model s) x
     unfolding activityRowOf model unrolled
     activity-past x past = rw (le-ltb x _ (rw all-activities at past)) refl

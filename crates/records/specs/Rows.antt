@@ -6,7 +6,7 @@ use mathlib.Core.List.{List}
 use lib.Dec.{eqb, leb, ltb}
 use Rattle.schedule.specs.Bounded.{all, bit, _⇒_}
 use Rattle.schedule.specs.Records.{within}
-use Rattle.schedule.specs.Model.{Model, model, widthAt}
+use Rattle.schedule.specs.Model.{Model, model}
 use Rattle.schedule.specs.Rounds.{noLoop}
 use Rattle.schedule.specs.Fields.{field, pairRow}
 use Rattle.schedule.specs.Rule.{Rule}
@@ -41,7 +41,6 @@ activityRowOf m a = record {
   delay = m .delay a;
   «temporal_mask» = m .temporal-mask a;
   «data_mask» = m .data-mask a;
-  width = m .width a;
 }
 
 -- the fields of a thread row, and of an activity row, that stand at a position
@@ -62,7 +61,6 @@ activityFields s at = record {
   delay = field s (at + 5) 2;
   «temporal_mask» = field s (at + 7) 4;
   «data_mask» = field s (at + 11) 4;
-  width = widthAt s at;
 }
 
 -- a thread's release and period

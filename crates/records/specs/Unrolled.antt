@@ -34,5 +34,4 @@ movedActivity n m k q row = record {
   delay = row .delay;
   «temporal_mask» = withLoop k m q (movedMask k m (row .«temporal_mask»));
   «data_mask» = movedMask k m (row .«data_mask»);
-  width = row .width;
 }

@@ -62,9 +62,6 @@ walk m (a ∷ l) cores-taken = elim (leb (cores-taken + m .width a) (m .cores)) 
 unfoldable pub walked : Model → (ℕ → Bool) → List ℕ
 walked m rdy = walk m (inRank m rdy (m .activities)) 0
 
-unfoldable pub selected : Model → (ℕ → Bool) → ℕ → Bool
-selected m rdy a = member a (walked m rdy)
-
 -- "are the word's bits"
 unfoldable pub wordAt : Model → (ℕ → ℕ) → ℕ → State → ℕ
 wordAt m release t s =

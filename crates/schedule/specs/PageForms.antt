@@ -1,5 +1,5 @@
 -- The form of pages (U4 of 02), on literal bytes: versions and lengths, 51, 52 and 53, and the orders around them: "1, 2, 3, 4,
--- 51, 5, 52, 6, 53, 7". One table with one truth about it. The expected values are worked out by hand.
+-- 51, 5, 52, 6, 53, 7"; 57 is in Gangs. One table with one truth about it. The expected values are worked out by hand.
 -- Assumes nothing.
 use Prim.Native.Nat.{ℕ}
 use mathlib.Core.List.{List, [], _∷_, _++_}

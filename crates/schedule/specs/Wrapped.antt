@@ -54,6 +54,14 @@ newer =
     ++ (0 ∷ 0 ∷ 0 ∷ 0 ∷ 0 ∷ 0 ∷ 0 ∷ 0 ∷ 0 ∷ 5 ∷ [])
     ++ (0 ∷ 0 ∷ 1 ∷ 0 ∷ 1 ∷ 0 ∷ 0 ∷ 0 ∷ 0 ∷ 0 ∷ 0 ∷ 0 ∷ 0 ∷ 0 ∷ 0 ∷ 255 ∷ [])
 
+-- issue 3, live: a version 3 model of 38 bytes in a record of 50, with c 2; its width is byte 49
+abbrev wide : List ℕ
+wide =
+    (0 ∷ 0 ∷ 0 ∷ 50 ∷ 1 ∷ 0 ∷ 0 ∷ 0 ∷ 7 ∷ 0 ∷ 3 ∷ 0 ∷ [])
+    ++ (0 ∷ 0 ∷ 0 ∷ 38 ∷ 3 ∷ 2 ∷ 1 ∷ 1 ∷ 0 ∷ 1 ∷ 2 ∷ [])
+    ++ (0 ∷ 0 ∷ 0 ∷ 0 ∷ 0 ∷ 0 ∷ 0 ∷ 0 ∷ 0 ∷ 5 ∷ [])
+    ++ (0 ∷ 0 ∷ 1 ∷ 0 ∷ 1 ∷ 0 ∷ 0 ∷ 0 ∷ 0 ∷ 0 ∷ 0 ∷ 0 ∷ 0 ∷ 0 ∷ 0 ∷ 255 ∷ 2 ∷ [])
+
 -- issue 1, live: a model of 16 activities in a record of 272 bytes, so that both lengths take two bytes
 abbrev long : List ℕ
 long =
@@ -197,6 +205,9 @@ files =
     (turned-away (patch 22 (5 ∷ []) newer) 54 0
     (turned-away (patch 23 (0 ∷ 1 ∷ 0 ∷ 2 ∷ []) newer) 54 0
     (turned-away (patch 48 (1 ∷ []) newer) 54 0
+    (chosen-of 50 wide 0 0 wide
+    (turned-away (patch 49 (0 ∷ []) wide) 54 0
+    (turned-away (patch 49 (3 ∷ []) wide) 54 0
     -- after a good start: 1 byte and 4 bytes left, a flag, a length past the end
     (turned-away (live-1 ++ (0 ∷ [])) 54 1
     (turned-away (live-1 ++ live-2 ++ (0 ∷ 0 ∷ 0 ∷ 12 ∷ [])) 54 2
@@ -208,7 +219,7 @@ files =
     (turned-away (live-1 ++ other-1 ++ (0 ∷ [])) 56 1
     -- 56 at a record before 55 at the next
     (turned-away (live-1 ++ other-1 ++ patch 8 (8 ∷ []) live-2) 56 1
-    []))))))))))))))))))))))))))))))))))))))))))))))))))))))))))
+    [])))))))))))))))))))))))))))))))))))))))))))))))))))))))))))))
 
 -- the rules say so
 pub wrapped-pairs : Right pairs

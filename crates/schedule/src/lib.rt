@@ -68,7 +68,8 @@ pub enum ActivityRule {
     Eligible,
 }
 
-// Those that are tried at ticks: A is a tick.
+// Those that are tried at ticks: A is a tick. "The ones in a word become the sum of active widths in 28 to 31", and not every
+// waiting B counts (02).
 pub enum TickRule {
     // 28 "at most c ones in the word"
     Cores,
@@ -112,7 +113,7 @@ pub struct Numbered {
     pub b: u32,
 }
 
-// "A pass answers usage (all ones), c times H, makespan"
+// "A pass answers usage (all ones), c times H, makespan": usage "in core ticks" (02).
 pub struct Figures {
     pub usage: u32,
     pub capacity: u32,

@@ -52,22 +52,18 @@ add-be32-2 c = search needs
 be32-requires-2 : tie.Need-be32-requires-2
 be32-requires-2 c κs = search needs
 
-width-at-requires : tie.Need-width-at-requires
-width-at-requires c κs = search needs
-
 returns-2 : tie.Need-returns-2
 unfolding activityRowOf page
 returns-2 c =
-    let c4 = c .before .before .before .before in
+    let c3 = c .before .before .before in
     rw (
-      ← c4 .before .before .before .before .activity-place .ensures .0,
-      ← c4 .before .before .byte .ensures,
-      ← c4 .before .be16 .ensures,
-      ← c4 .be162 .ensures,
-      ← c .before .before .before .be163 .ensures,
-      ← c .before .before .be32 .ensures,
-      ← c .before .be322 .ensures,
-      ← c .width-at .ensures,
+      ← c3 .before .before .before .before .activity-place .ensures .0,
+      ← c3 .before .before .byte .ensures,
+      ← c3 .before .be16 .ensures,
+      ← c3 .be162 .ensures,
+      ← c .before .before .be163 .ensures,
+      ← c .before .be32 .ensures,
+      ← c .be322 .ensures,
     )
 
 pub activity-row-spec : {M : Type 1} → statement M
@@ -89,5 +85,4 @@ activity-row-spec =
     be32-requires
     add-be32-2
     be32-requires-2
-    width-at-requires
     returns-2)

@@ -108,16 +108,13 @@ shared-slice-read-joined-8 c = search needs
 joined-requires-2 : tie.Need-joined-requires-2
 joined-requires-2 c κs = search needs
 
-width-at-requires : tie.Need-width-at-requires
-width-at-requires c κs = search needs
-
 returns : tie.Need-returns
 returns c =
-    let c5 = c .before .before .before .before .before .before in
+    let c5 = c .before .before .before .before .before in
     let c10 = c5 .before .before .before .before .before in
     let c13 = c10 .before .before .before in
-    activity-read _ _ _ _ _ _ _ _ _ refl (c13 .before .before .before .paired .ensures) (c13 .paired2 .ensures)
-    (c10 .paired3 .ensures) (c5 .joined .ensures) (c .before .joined2 .ensures) (c .width-at .ensures)
+    activity-read _ _ _ _ _ _ _ _ refl (c13 .before .before .before .paired .ensures) (c13 .paired2 .ensures)
+    (c10 .paired3 .ensures) (c5 .joined .ensures) (c .joined2 .ensures)
 
 pub activity-whole-spec : {M : Type 1} → statement M
 activity-whole-spec =
@@ -157,5 +154,4 @@ activity-whole-spec =
     add-joined-8
     shared-slice-read-joined-8
     joined-requires-2
-    width-at-requires
     returns)
