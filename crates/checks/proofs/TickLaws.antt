@@ -24,7 +24,7 @@ use Rattle.laws.proofs.Cores.{cores-more}
 use Rattle.laws.proofs.Counting.{T-ext, T-false}
 use Rattle.laws.proofs.Rank.{before-says, before-irreflexive}
 use Rattle.laws.proofs.Words.{bit-high, bit-wordOf, word-ext, wordOf-ext, wordOf-lt}
-use Rattle.laws.proofs.WordLaws.{bit-and, bit-zero, bit-with, with-lt, word-none}
+use Rattle.laws.proofs.WordLaws.{bit-and, bit-zero, bit-with, with-lt, and-words, word-none}
 use Rattle.tables.specs.declared.loads.Widths.{Widths}
 use Rattle.tables.specs.declared.ranking.Order.{Order}
 use Rattle.tables.specs.Columns.{amongActivities}
@@ -37,7 +37,7 @@ use Rattle.checks.specs.Windows.{openOf, without}
 use Rattle.checks.specs.Tables.{ends, froms, befores, brokenMask, Tabulated}
 use Rattle.checks.specs.Ticks.{tickRule, any, rankMask, outranking, outrankingOf, Ranked, contendingMask}
 use Rattle.checks.specs.Ticks.{fitsFrom, contendingOf, waitingIn, overloadedOf, contestedOf, idleOf, breakingOf}
-use Rattle.checks.proofs.WaitLaws.{waits-when, and-words, idle-mask, preemption-mask, tie-mask, cores-mask}
+use Rattle.checks.proofs.WaitLaws.{waits-when, idle-mask, preemption-mask, tie-mask, cores-mask}
 
 -- where nothing waits, nothing counts, and nothing breaks a rule that is tried of the waiting
 none-contends : (widths : Widths) (befores : List ℕ) (word c waiting : ℕ) → waiting ≡ 0

@@ -1,11 +1,10 @@
 -- A rule's broken places at a tick, read off masks of the waiting that count and of outranking activities.
 -- Assumes nothing.
 use Prim.Native.Nat.{ℕ, _+_, _^_, _≤_, _<_}
-use native.Mathlib.Nat.{lt-of-le-of-lt}
 use native.Mathlib.Omega.{arith}
 use mathlib.Core.Bool.{Bool, true, false, _&&_, not, cond, Bool·not-not}
-use mathlib.Core.Path.{_≡_, refl, sym, ap, ap₂, _∙_}
-use lib.Bits.{bitAnd, and-le-l}
+use mathlib.Core.Path.{_≡_, refl, sym, ap, _∙_}
+use lib.Bits.{bitAnd}
 use lib.Dec.{T, leb, ltb, eqb}
 use Rattle.schedule.specs.Bounded.{all, greatest, bit, wordOf, _⇒_}
 use Rattle.schedule.specs.Model.{Model, priorityOf, temporally, byData}
@@ -15,8 +14,8 @@ use Rattle.laws.proofs.Tests.{tests, T-leb}
 use Rattle.laws.proofs.Counting.{T-ext, all-ext}
 use Rattle.laws.proofs.Sums.{greatest-bound, greatest-each}
 use Rattle.laws.proofs.Sound.{waits-sound}
-use Rattle.laws.proofs.Words.{wordOf-ext, wordOf-lt, word-ext, bit-wordOf}
-use Rattle.laws.proofs.WordLaws.{bit-and, word-none}
+use Rattle.laws.proofs.Words.{wordOf-ext, bit-wordOf}
+use Rattle.laws.proofs.WordLaws.{and-words, word-none}
 use Rattle.tables.specs.declared.ranking.Order.{Order}
 use Rattle.checks.specs.Tables.{brokenMask, waitsFrom}
 use Rattle.checks.specs.Ticks.{any, rankMask, outranking, contendingMask}
@@ -71,15 +70,6 @@ waits-when m p t a = T-ext _ _ there back
             greatest-each (m .activities) (λ b. cond (byData m b a) (p .end b) 0) b l,
           );
         })
-
--- the bits that two words share
-pub and-words : (n k : ℕ) (p q : ℕ → Bool) → n ≤ k → bitAnd (wordOf n p) (wordOf k q) ≡ wordOf n (λ b. p b && q b)
-and-words n k p q h =
-    word-ext n (bitAnd (wordOf n p) (wordOf k q)) (wordOf n (λ b. p b && q b))
-    (lt-of-le-of-lt (and-le-l (wordOf n p) (wordOf k q)) (wordOf-lt n p)) (wordOf-lt n (λ b. p b && q b))
-    (λ b l. bit-and (wordOf n p) (wordOf k q) b
-    ∙ ap₂ _&&_ (bit-wordOf n p b l) (bit-wordOf k q b (omega arith))
-    ∙ sym (bit-wordOf n (λ b. p b && q b) b l))
 
 -- where a test guards a mask: all of it, or nothing
 guarded : (n : ℕ) (t : Bool) (p : ℕ → Bool) → wordOf n (λ b. not (t ⇒ p b)) ≡ cond t (wordOf n (λ b. not (p b))) 0

@@ -5,7 +5,6 @@ use crate::page::ENDS;
 use crate::page::FINISHES;
 use crate::page::Tables;
 use crate::page::at;
-use crate::page::thread_of;
 use crate::refused;
 use numbers::less;
 use records::Pass;
@@ -69,7 +68,7 @@ fn deadline_holds(s: &[u8], r: &[u8], a: Activity) -> bool
     ensures { λ x. ⌜ x
         ≡ inTime (model (now (s .entry))) (planTiming (plan (now (r .entry)))) (plan (now (r .entry)) .end) (a .0) ⌝ }
 {
-    let row = records::plan::thread_row(r, thread_of(s, a));
+    let row = records::plan::thread_row(r, records::model::owner(s, a));
     let span = records::plan::activity_row(r, a);
     on_time(row.release as u32, row.period as u32, span.end as u32)
 }
@@ -126,7 +125,6 @@ fn breaking(
     requires { ⌜ a .0 < model (now s) .activities ⌝ }
     ensures { λ x. ⌜ x ≡ brokenMask (activityRule rule (model (now (s .entry))) (plan (now (r .entry)))) (a .0) ⌝ }
 {
-    let row = records::model::activity_row(s, a);
     let sizes = records::model::counts(s);
     let n = sizes.activities;
     let span = records::plan::activity_row(r, a);
@@ -136,13 +134,19 @@ fn breaking(
         ActivityRule::Count => flag(count_holds(s, a, at(&tables[COUNTS], a))),
         ActivityRule::Deadline => flag(deadline_holds(s, r, a)),
         ActivityRule::Temporal => early_mask(
-            row.temporal_mask,
+            records::model::activity_row(s, a).temporal_mask,
             start,
             n,
             &tables[ENDS],
             &tables[DELAYS],
         ),
-        ActivityRule::Data => early_mask(row.data_mask, start, n, &tables[ENDS], &[0u32; 32]),
+        ActivityRule::Data => early_mask(
+            records::model::activity_row(s, a).data_mask,
+            start,
+            n,
+            &tables[ENDS],
+            &[0u32; 32],
+        ),
         ActivityRule::Eligible => flag(
             less(at(&tables[FINISHES], a), at(&tables[COUNTS], a)) <= start,
         ),

@@ -1,6 +1,5 @@
 // efe, and the ticks from which activities can wait, by activity: predecessors have lower numbers.
 use crate::page::at;
-use crate::page::thread_of;
 use numbers::larger;
 use numbers::less;
 use records::model::Activity;
@@ -48,7 +47,7 @@ fn earliest(s: &[u8], r: &[u8], n: u8, a: Activity, delays: &[u32; 32], done: &[
     ensures { λ x. ⌜ x ≡ max (plan (now (r .entry)) .release (model (now (s .entry)) .thread (a .0)))
         (after (model (now (s .entry))) n (λ b. getD (now (done .entry)) b 0) (a .0)) ⌝ }
 {
-    let row = records::plan::thread_row(r, thread_of(s, a));
+    let row = records::plan::thread_row(r, records::model::owner(s, a));
     let release = row.release as u32;
     larger(release, after(s, n, a, delays, done))
 }

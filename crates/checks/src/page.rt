@@ -1,7 +1,6 @@
 // What the rules of activities and of ticks both look up of a model and a plan, by activity: tables of 32 numbers.
 use crate::efe;
 use records::model::Activity;
-use records::model::Thread;
 use tables::columns::Column;
 use tables::ranking::Order;
 ghost use mathlib.Core.Path.{_≡_};
@@ -34,14 +33,6 @@ pub(crate) fn at(table: &[u32; 32], a: Activity) -> u32
 {
     let number = a.0;
     table[number as usize]
-}
-
-// The thread that owns activity a.
-pub(crate) fn thread_of(s: &[u8], a: Activity) -> Thread
-    ensures { λ r. ⌜ r ≡ record { 0 = model (now (s .entry)) .thread (a .0) } ⌝ }
-{
-    let row = records::model::activity_row(s, a);
-    row.thread
 }
 
 // All of them.

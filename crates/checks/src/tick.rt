@@ -157,7 +157,8 @@ fn breaking(
     }
 }
 
-// The lowest of them, 32 where there is none. A tick that shows what one shows that breaks nothing breaks nothing either.
+// The lowest of them, 32 where there is none. `passed` is a tick that breaks nothing; a rule sees no more of a tick than the
+// snapshot, so one with the same snapshot is not tried again.
 fn first_breaking(
     rule: TickRule,
     passed: Snapshot,

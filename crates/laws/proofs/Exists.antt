@@ -12,12 +12,12 @@ use Rattle.schedule.specs.Records.{Within}
 use Rattle.schedule.specs.Model.{Model, temporally, byData, Ordered}
 use Rattle.schedule.specs.Timing.{InTime}
 use Rattle.schedule.specs.Plan.{Plan, planTiming, active}
-use Rattle.schedule.specs.Machine.{owes, endOf, ready, before, selected, machineWord, machineStart, machineEnd, machineOwes}
+use Rattle.schedule.specs.Machine.{owes, endOf, ready, before, machineWord, machineStart, machineEnd, machineOwes}
 use Rattle.schedule.specs.Checks.{countOf, efe, Waiting, coresOf, load, Contends, Window}
 use Rattle.schedule.specs.Keeps.{KeepsStrict}
 use Rattle.laws.proofs.Counting.{count-ext, count-stops}
 use Rattle.laws.proofs.Cores.{cores-ext}
-use Rattle.laws.proofs.Selection.{selected-fits, selected-few}
+use Rattle.laws.proofs.Selection.{selected, selected-fits, selected-few}
 use Rattle.laws.proofs.Lowest.{lowest-is, lowest-found}
 use Rattle.laws.proofs.MachineLaws.{Ready, ready-sound, at, runs, runs-selected, runs-ready, runs-duration}
 use Rattle.laws.proofs.MachineLaws.{owed-done, stays, Ended, ended}

@@ -14,12 +14,12 @@ use lib.Seq.{getD-at}
 use borrow.Author.Tests.{eq-eqb}
 use Rattle.schedule.specs.Bounded.{count, table, bit}
 use Rattle.schedule.specs.Model.{Model, temporally, byData}
-use Rattle.schedule.specs.Machine.{State, owes, endOf, endedBy, ready, selected, wordAt, initial, step, stateAt}
+use Rattle.schedule.specs.Machine.{State, owes, endOf, endedBy, ready, wordAt, initial, step, stateAt}
 use Rattle.schedule.specs.Machine.{machineWord, machineOwes}
 use Rattle.laws.proofs.Tests.{tests, below-suc}
 use Rattle.laws.proofs.Counting.{decT, T-true, T-false, implies-same, weight, one-if, zero-if, count-suc, count-zero, all-ext}
 use Rattle.laws.proofs.Words.{bit-wordOf, wordOf-lt}
-use Rattle.laws.proofs.Selection.{selected-fits}
+use Rattle.laws.proofs.Selection.{selected, selected-fits}
 
 pub length-table : {A : Type 0} (n : ℕ) (f : ℕ → A) → length (table n f) ≡ n
 unfolding table

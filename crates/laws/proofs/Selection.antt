@@ -12,7 +12,7 @@ use mathlib.Core.Path.{_≡_, refl, sym, subst, ap, _∙_}
 use lib.Dec.{T, leb, eqb}
 use Rattle.schedule.specs.Bounded.{member}
 use Rattle.schedule.specs.Model.{Model}
-use Rattle.schedule.specs.Machine.{before, insert, inRank, walk, walked, selected}
+use Rattle.schedule.specs.Machine.{before, insert, inRank, walk, walked}
 use Rattle.schedule.specs.Checks.{coresOf, ahead}
 use Rattle.laws.proofs.Tests.{T-and, T-or, T-eqb, T-leb, below-suc}
 use Rattle.laws.proofs.Counting.{decT, T-ext, and-same}
@@ -260,7 +260,10 @@ pub record Fits (m : Model) (rdy act : ℕ → Bool) : Type 0 where
   pub has-room : (a : ℕ) → a < m .activities → T (act a) → m .width a + ahead m act a ≤ m .cores
   pub is-active : (a : ℕ) → a < m .activities → T (rdy a) → m .width a + ahead m act a ≤ m .cores → T (act a)
 
--- the walk's choice
+-- the walk's choice: activity a is taken
+unfoldable pub selected : Model → (ℕ → Bool) → ℕ → Bool
+selected m rdy a = member a (walked m rdy)
+
 pub selected-fits : (m : Model) (rdy : ℕ → Bool) → Fits m rdy (selected m rdy)
 unfolding selected walked In
 selected-fits m rdy = record {

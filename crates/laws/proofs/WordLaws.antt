@@ -3,13 +3,13 @@
 -- Assumes nothing.
 use Prim.Native.Nat.{ℕ, zero, suc, _+_, _-_, _*_, _/_, _%_, _^_, _≤_, _<_}
 use native.Mathlib.Decide.{decLt}
-use native.Mathlib.Nat.{pow-suc, one-mul, zero-mul, mod-lt, mod-eq-of-lt}
+use native.Mathlib.Nat.{pow-suc, one-mul, zero-mul, mod-lt, mod-eq-of-lt, lt-of-le-of-lt}
 use native.Mathlib.Numerals.{add-one, one-add}
 use native.Mathlib.Omega.{arith}
 use mathlib.Core.Bool.{Bool, true, false, _&&_, _||_, not, cond}
 use mathlib.Core.Logic.{_↔_}
 use mathlib.Core.Path.{_≡_, refl, sym, subst, ap, ap₂, _∙_}
-use lib.Bits.{bitAnd, bitOr, and-shr, or-shr, and-mod, or-mod, and-high, and-mask, and-lt, or-lt, or-add-and, or-disjoint}
+use lib.Bits.{bitAnd, bitOr, and-shr, or-shr, and-mod, or-mod, and-high, and-mask, and-lt, and-le-l, or-lt, or-add-and, or-disjoint}
 use lib.Count as digits
 use lib.Count.{ones-cat, ones-ones, trailingZeros, under}
 use lib.Dec.{T, eqb, ltb, eqb→eq}
@@ -88,6 +88,15 @@ zero-bits n x h =
 -- the word of nothing
 pub word-none : (n : ℕ) (p : ℕ → Bool) → ((b : ℕ) → b < n → p b ≡ false) → wordOf n p ≡ 0
 word-none n p h = zero-bits n (wordOf n p) (wordOf-lt n p) .1 (λ b l. bit-wordOf n p b l ∙ h b l)
+
+-- what two words share
+pub and-words : (n k : ℕ) (p q : ℕ → Bool) → n ≤ k → bitAnd (wordOf n p) (wordOf k q) ≡ wordOf n (λ b. p b && q b)
+and-words n k p q h =
+    word-ext n (bitAnd (wordOf n p) (wordOf k q)) (wordOf n (λ b. p b && q b))
+    (lt-of-le-of-lt (and-le-l (wordOf n p) (wordOf k q)) (wordOf-lt n p)) (wordOf-lt n (λ b. p b && q b))
+    (λ b l. bit-and (wordOf n p) (wordOf k q) b
+    ∙ ap₂ _&&_ (bit-wordOf n p b l) (bit-wordOf k q b (omega arith))
+    ∙ sym (bit-wordOf n (λ b. p b && q b) b l))
 
 -- ---- a word of one bit
 

@@ -17,7 +17,7 @@ use lib.Pow.{pow-mono}
 use borrow.Author.Tests.{lt-ltb}
 use Rattle.schedule.specs.Bounded.{all, bit, lowest, wordOf, _⇒_}
 use Rattle.schedule.specs.Model.{Model, temporally, byData}
-use Rattle.schedule.specs.Machine.{State, owes, endedBy, ready, selected, wordAt, initial, stateAt, machineWord}
+use Rattle.schedule.specs.Machine.{State, owes, endedBy, ready, wordAt, initial, stateAt, machineWord}
 use Rattle.laws.proofs.Tests.{T-and, T-not, T-all, T-implies, T-eqb, T-ltb}
 use Rattle.laws.proofs.Counting.{decT, T-ext, T-true, T-false, all-ext}
 use Rattle.laws.proofs.MachineLaws.{owes-next, end-next, getD-table}
@@ -30,6 +30,7 @@ use Rattle.machine.specs.Masks.{delays, Tabled, Keeps, Stepped}
 use Rattle.tables.specs.Columns.{TableOf, amongActivities}
 use Rattle.tables.proofs.TableLaws.{among-lt, bit-among}
 use Rattle.machine.proofs.WalkLaws.{walk-is}
+use Rattle.laws.proofs.Selection.{selected}
 
 -- every bit of x is a bit of y, bit by bit
 pub covered-says : (x y : ℕ) → x < 2 ^ 32 → y < 2 ^ 32 → T (covered x y) ↔ ((b : ℕ) → b < 32 → T (bit x b) → T (bit y b))

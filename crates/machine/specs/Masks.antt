@@ -4,10 +4,10 @@ use Prim.Native.Nat.{ℕ, zero, suc, _+_, _-_, _^_, _≤_, _<_}
 use mathlib.Core.Bool.{Bool, _&&_, cond}
 use mathlib.Core.List.{List, []}
 use mathlib.Core.Path.{_≡_}
-use lib.Bits.{bitAnd}
-use lib.Dec.{T, eqb, leb, ltb}
+use lib.Bits.{bitAnd, bitOr}
+use lib.Dec.{eqb, leb, ltb}
 use lib.ListN.{length, getD, replicate}
-use Rattle.schedule.specs.Bounded.{bit, withBit, wordOf}
+use Rattle.schedule.specs.Bounded.{bit, count, lowest, wordOf}
 use Rattle.schedule.specs.Model.{Model, temporally, byData}
 use Rattle.schedule.specs.Machine.{State, owes, endOf, before}
 use Rattle.tables.specs.Columns.{TableOf, amongActivities}
@@ -51,25 +51,32 @@ readyFrom tables owed past over t a =
     && (leb (getD (releases tables) a 0) t
     && (covered (getD (temporal tables) a 0) past && covered (getD (by-data tables) a 0) over))
 
--- the walk with activity a taken, if it is ready and its width still fits
-unfoldable pub taking : Walk → ℕ → List ℕ → ℕ → Walk
-taking walk ready-mask width a =
-    cond (bit ready-mask a && leb (getD width a 0) (walk .room))
-    (record { word = withBit (walk .word) a; room = walk .room - getD width a 0 })
-    walk
+-- the walk past an activity that is ready, whose bit alone is in `here`: it is taken if its width still fits
+unfoldable pub passing : Walk → ℕ → ℕ → Walk
+passing walk width here =
+    cond (leb width (walk .room))
+    (record {
+      rest = bitAnd (walk .rest) ((2 ^ 32 - 1) - here);
+      word = bitOr (walk .word) here;
+      room = walk .room - width;
+    })
+    (record { rest = bitAnd (walk .rest) ((2 ^ 32 - 1) - here); word = walk .word; room = walk .room })
+
+-- the walk past a place of the ranking, where a mask has the activity that stands there
+unfoldable pub taking : Walk → List ℕ → ℕ → Walk
+taking walk width mask =
+    cond (eqb (bitAnd (walk .rest) mask) 0) walk
+    (passing walk (getD width (lowest 32 (bit (bitAnd (walk .rest) mask))) 0) (bitAnd (walk .rest) mask))
 
 -- the walk along the first k places of the ranking, with c cores
 unfoldable pub walkedFrom : ℕ → ℕ → List (List ℕ) → ℕ → Walk
-walkedFrom c ready-mask tables zero = record { word = 0; room = c }
+walkedFrom c ready-mask tables zero = record { rest = ready-mask; word = 0; room = c }
 walkedFrom c ready-mask tables (suc k) =
-    taking (walkedFrom c ready-mask tables k) ready-mask (widths tables) (getD (order tables) k 0)
+    taking (walkedFrom c ready-mask tables k) (widths tables) (getD (order tables) k 0)
 
--- A list that has the activities in rank order: each stands at one of its first places, as many as there are activities, and
--- of two the one at the lower place ranks before the other. A number that is no activity's may stand anywhere.
-pub record Ranked (m : Model) (l : List ℕ) : Type 0 where
-  pub stands : (a : ℕ) → a < m .activities → (k : ℕ) × (k < m .activities) × (getD l k 0 ≡ a)
-  pub in-rank : (j k : ℕ) → j < k → k < m .activities → getD l j 0 < m .activities → getD l k 0 < m .activities
-      → T (before m (getD l j 0) (getD l k 0))
+-- the word of the activity at place k of the ranking, from 0: so many rank before it
+unfoldable pub atPlace : Model → ℕ → ℕ
+atPlace m k = wordOf (m .activities) (λ a. eqb (count (m .activities) (λ b. before m b a)) k)
 
 -- Tables of what the machine needs of a model and the chosen releases.
 pub record Tabled (m : Model) (release : ℕ → ℕ) (tables : List (List ℕ)) : Type 0 where
@@ -78,7 +85,7 @@ pub record Tabled (m : Model) (release : ℕ → ℕ) (tables : List (List ℕ))
   pub delay-ticks : TableOf m (delays tables) (m .delay)
   pub temporal-masks : TableOf m (temporal tables) (λ a. amongActivities m (λ b. temporally m b a))
   pub data-masks : TableOf m (by-data tables) (λ a. amongActivities m (λ b. byData m b a))
-  pub rank-order : Ranked m (order tables)
+  pub rank-order : TableOf m (order tables) (atPlace m)
   pub width-cores : TableOf m (widths tables) (m .width)
 
 -- Tables that hold the machine's state.

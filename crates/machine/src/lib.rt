@@ -11,7 +11,8 @@ ghost use mathlib.Core.Path.{_≡_};
 ghost use Prim.Native.Nat.{_≤_};
 ghost use Rattle.schedule.specs.Model.{model};
 ghost use Rattle.schedule.specs.Choice.{choice};
-ghost use Rattle.machine.specs.Masks.{Ranked, Tabled};
+ghost use Rattle.tables.specs.Columns.{TableOf};
+ghost use Rattle.machine.specs.Masks.{atPlace, Tabled};
 ghost use Rattle.records.specs.Reads.{passNumbers};
 ghost use Rattle.machine.specs.Played.{Finished, playedEnds, playedRefusal, playedGrid};
 
@@ -27,19 +28,19 @@ pub struct Played {
     pub judged: Pass,
 }
 
-// The activities in rank order: the place of each is how many rank before it. A place that none has holds 32, no activity.
+// The activities in rank order: at each place the word of the one that so many rank before.
 fn order(s: &[u8]) -> [u32; 32]
     requires { ⌜ model (now s) .activities ≤ 32 ⌝ }
-    ensures { λ r. ⌜ Ranked (model (now (s .entry))) r ⌝ }
+    ensures { λ r. ⌜ TableOf (model (now (s .entry))) r (atPlace (model (now (s .entry)))) ⌝ }
 {
     let sizes = records::model::counts(s);
     let n = sizes.activities as usize;
     let befores = tables::ranking::masks(Order::Before, s);
-    let mut order = [32u32; 32];
+    let mut order = [0u32; 32];
     let mut a = 0;
     while a < n {
-        let place = bits::ones(befores[a]);
-        order[place as usize] = a as u32;
+        let place = bits::ones(befores[a]) as usize;
+        order[place] = bits::with(order[place], a as u32);
         a += 1;
     }
     order

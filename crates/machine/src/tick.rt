@@ -7,7 +7,8 @@ ghost use Prim.Native.Nat.{_+_, _≤_, _<_};
 ghost use lib.Dec.{eqb};
 ghost use lib.ListN.{length};
 ghost use Rattle.schedule.specs.Bounded.{wordOf};
-ghost use Rattle.machine.specs.Masks.{covered, endedFrom, endedMask, readyFrom, taking, walkedFrom, tickWord, Stepped};
+ghost use Rattle.machine.specs.Masks.{covered, endedFrom, endedMask, readyFrom, passing, taking, walkedFrom};
+ghost use Rattle.machine.specs.Masks.{tickWord, Stepped};
 
 // What the machine needs of a model and the chosen releases, a table of each.
 pub(crate) type Tables = [[u32; 32]; 6];
@@ -95,38 +96,61 @@ fn ready(n: usize, tables: &Tables, owed: &[u32; 32], past: u32, over: u32, t: u
 
 // ---- what is taken
 
-// How far the walk along the ranking has come: what it has taken, and how many cores are left.
+// How far the walk along the ranking has come: the ready that are still to come, what it has taken, and the cores left.
 struct Walk {
+    rest: u32,
     word: u32,
     room: u32,
 }
 
-// Takes activity a if it is ready and its width still fits.
-fn take(walk: Walk, ready: u32, widths: &[u32; 32], a: u32) -> Walk
-    ensures { λ r. ⌜ r ≡ taking walk ready (now (widths .entry)) a ⌝ }
+// Passes an activity that is ready, the one bit of `here`: takes it if its width still fits.
+fn pass(walk: Walk, width: u32, here: u32) -> Walk
+    ensures { λ r. ⌜ r ≡ passing walk width here ⌝ }
 {
-    if bits::has(ready, a) {
-        let width = widths[a as usize];
-        if width <= walk.room {
-            return Walk {
-                word: bits::with(walk.word, a),
-                room: walk.room - width,
-            };
-        }
+    let rest = walk.rest & !here;
+    if width <= walk.room {
+        return Walk {
+            rest,
+            word: walk.word | here,
+            room: walk.room - width,
+        };
     }
-    walk
+    Walk {
+        rest,
+        word: walk.word,
+        room: walk.room,
+    }
+}
+
+// Passes a place of the ranking, where a mask has the activity that stands there.
+fn take(walk: Walk, widths: &[u32; 32], mask: u32) -> Walk
+    ensures { λ r. ⌜ r ≡ taking walk (now (widths .entry)) mask ⌝ }
+{
+    let here = walk.rest & mask;
+    if here == 0 {
+        return walk;
+    }
+    let a = bits::lowest(here);
+    pass(walk, widths[a as usize], here)
 }
 
 // "walks the ready in rank order and takes each whose width still fits" (U7 of 02): the places of the ranking one after the
-// other, past one that does not fit too.
+// other, past one that does not fit too, until none of the ready is still to come.
 fn select(n: usize, c: u32, ready: u32, tables: &Tables) -> u32
     requires { ⌜ n ≤ 32 ⌝ }
     ensures { λ r. ⌜ r ≡ walkedFrom c ready (now (tables .entry)) n .word ⌝ }
 {
-    let mut walk = Walk { word: 0, room: c };
+    let mut walk = Walk {
+        rest: ready,
+        word: 0,
+        room: c,
+    };
     let mut k = 0;
     while k < n {
-        walk = take(walk, ready, &tables[WIDTHS], tables[ORDER][k]);
+        if walk.rest == 0 {
+            break;
+        }
+        walk = take(walk, &tables[WIDTHS], tables[ORDER][k]);
         k += 1;
     }
     walk.word

@@ -6,7 +6,7 @@ use mathlib.Core.List.{List}
 use mathlib.Core.Path.{_≡_, refl, ap₂, _∙_}
 use borrow.Author.Tests.{lt-ltb, le-ltb}
 use Rattle.schedule.specs.Fields.{field, Bytes}
-use Rattle.schedule.specs.Rounds.{inAll}
+use Rattle.schedule.specs.Rounds.{inAll, numberIn}
 use Rattle.schedule.specs.Model.{page, unrolled, model, threadRow, activityRow}
 use Rattle.laws.proofs.FieldLaws.{field-lt}
 use Rattle.laws.proofs.RoundLaws.{number-first, release-first, mask-first}
@@ -96,3 +96,24 @@ module _ (s : List ℕ) (n rounds all : ℕ) (r : rounds ≡ page s .rounds) (a 
     unfolding activityRowOf model unrolled movedActivity
     activity-here x k place q threads row moved here round row-at read loop owners made =
         rw (lt-ltb x _ (rw all-activities at here)) (rw (made, loop, read, row-at, round, owners, e) refl)
+
+    pub owner-past : (x : ℕ) → all ≤ x → 0 ≡ model s .thread x
+    unfolding model unrolled
+    owner-past x past = rw (le-ltb x _ (rw all-activities at past)) refl
+
+    pub owner-here : (x k place threads one own : ℕ) → x < all → k ≡ x / n → place ≡ x % n
+        → one ≡ page s .plain .thread place → threads ≡ page s .plain .threads → own ≡ numberIn k threads one
+        → own ≡ model s .thread x
+    unfolding model unrolled
+    owner-here x k place threads one own here round row-at read owners made =
+        rw (lt-ltb x _ (rw all-activities at here)) (rw (made, read, row-at, round, owners, e) refl)
+
+    pub width-past : (x : ℕ) → all ≤ x → 0 ≡ model s .width x
+    unfolding model unrolled
+    width-past x past = rw (le-ltb x _ (rw all-activities at past)) refl
+
+    pub width-here : (x place width : ℕ) → x < all → place ≡ x % n → width ≡ page s .plain .width place
+        → width ≡ model s .width x
+    unfolding model unrolled
+    width-here x place width here row-at read =
+        rw (lt-ltb x _ (rw all-activities at here)) (rw (read, row-at, e) refl)

@@ -47,7 +47,7 @@ pub struct ThreadRow {
     pub priority: u16,
 }
 
-// "thread (1), least and most duration (2 each), delay (2), temporal mask (4), data mask (4)", and "a last byte .., its width".
+// "thread (1), least and most duration (2 each), delay (2), temporal mask (4), data mask (4)".
 pub struct ActivityRow {
     pub thread: Thread,
     pub least_duration: u16,
@@ -55,7 +55,6 @@ pub struct ActivityRow {
     pub delay: u16,
     pub temporal_mask: u32,
     pub data_mask: u32,
-    pub width: u8,
 }
 
 // ---- the unrolled model
@@ -128,7 +127,7 @@ pub fn thread_row(s: &[u8], j: Thread) -> ThreadRow
 }
 
 // An activity's row in round k of n threads and m activities each, with its loop byte q: its thread is that of the round, and
-// "Masks move likewise". Its width is the same in every round.
+// "Masks move likewise".
 fn moved_activity(row: ActivityRow, n: u8, m: u8, k: u8, q: u8) -> ActivityRow
     ensures { λ r. ⌜ r ≡ movedActivity n m k q row ⌝ }
 {
@@ -141,7 +140,6 @@ fn moved_activity(row: ActivityRow, n: u8, m: u8, k: u8, q: u8) -> ActivityRow
         delay: row.delay,
         temporal_mask: unroll::with_loop(k, m, q, temporal),
         data_mask: unroll::mask(k, m, row.data_mask),
-        width: row.width,
     }
 }
 
@@ -158,7 +156,6 @@ fn activity_by_round(s: &[u8], a: u8, m: u8) -> ActivityRow
             delay: 0,
             temporal_mask: 0,
             data_mask: 0,
-            width: 0,
         };
     }
     let place = unroll::place(a, m);
@@ -182,6 +179,31 @@ pub fn activity_row(s: &[u8], a: Activity) -> ActivityRow
         }
     }
     activity_by_round(s, number, m)
+}
+
+// The thread that owns activity a, of any bytes; thread 0 where there is none.
+pub fn owner(s: &[u8], a: Activity) -> Thread
+    ensures { λ r. ⌜ r .0 ≡ model (now (s .entry)) .thread (a .0) ⌝ }
+{
+    let number = a.0;
+    let m = page::activities(s);
+    if unroll::in_all(page::rounds(s), m) <= number {
+        return Thread(0);
+    }
+    let one = page::owner(s, unroll::place(number, m));
+    Thread(unroll::number(unroll::round(number, m), page::threads(s), one))
+}
+
+// The width of activity a, the same in every round, of any bytes; 0 where there is none.
+pub fn width(s: &[u8], a: Activity) -> u8
+    ensures { λ r. ⌜ r ≡ model (now (s .entry)) .width (a .0) ⌝ }
+{
+    let number = a.0;
+    let m = page::activities(s);
+    if unroll::in_all(page::rounds(s), m) <= number {
+        return 0;
+    }
+    page::width(s, unroll::place(number, m))
 }
 
 // ---- rule 12, of a choice or a plan

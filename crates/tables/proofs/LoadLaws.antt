@@ -2,18 +2,18 @@
 -- Assumes nothing.
 use Prim.Native.Nat.{ℕ, zero, suc, _+_, _*_, _^_, _≤_, _<_, min}
 use native.Mathlib.Decide.{decLt}
-use native.Mathlib.Nat.{pow-suc, zero-mul, mul-comm, mul-le-mul-right, lt-of-le-of-lt}
+use native.Mathlib.Nat.{pow-suc, mul-comm, mul-le-mul-right, lt-of-le-of-lt}
 use native.Mathlib.Numerals.{add-one}
 use native.Mathlib.Omega.{arith}
 use mathlib.Core.Bool.{Bool, true, false, _&&_, cond, and-true, and-false}
 use mathlib.Core.List.{List}
 use mathlib.Core.Path.{_≡_, refl, sym, subst, ap, _∙_}
-use lib.Bits.{bitAnd, and-zero-l}
+use lib.Bits.{bitAnd}
 use lib.Dec.{T, ltb, ltb→lt}
 use lib.ListN.{getD}
 use lib.Pow.{pow-mono}
 use borrow.Author.Tests.{lt-ltb, le-ltb}
-use Rattle.schedule.specs.Bounded.{bit, count, total, greatest, lowest, ones, table, wordOf}
+use Rattle.schedule.specs.Bounded.{bit, total, greatest, lowest, ones, table, wordOf}
 use Rattle.schedule.specs.Model.{Model}
 use Rattle.schedule.specs.Checks.{coresOf}
 use Rattle.laws.proofs.Tests.{T-and}
@@ -23,10 +23,10 @@ use Rattle.laws.proofs.MachineLaws.{getD-table}
 use Rattle.laws.proofs.Steps.{ones-few, total-start}
 use Rattle.laws.proofs.Sums.{greatest-each, greatest-ext, total-ext, total-bound, total-stops, total-exchange, total-counted}
 use Rattle.laws.proofs.Words.{bit-high}
-use Rattle.laws.proofs.WordLaws.{bit-and, bit-past, wordOf-bits, zero-bits}
+use Rattle.laws.proofs.WordLaws.{bit-and, bit-zero, bit-past, wordOf-bits, zero-bits}
 use Rattle.tables.specs.Columns.{byActivity}
 use Rattle.tables.specs.declared.loads.Widths.{Widths}
-use Rattle.tables.specs.Loads.{planeOf, depthOf, widthsOf, loadFrom}
+use Rattle.tables.specs.Loads.{planeOf, depthOf, widthsOf, widthIn, loadFrom}
 use Rattle.tables.proofs.TableLaws.{FilledTo, table-whole, by-at, among-lt, bit-among, among-first}
 
 -- ---- what a digit is worth
@@ -40,6 +40,34 @@ worth-small j l = pow-mono {i = j} {j = 7} (omega arith)
 -- a word has at most 32 ones
 pub few-times : (word x w : ℕ) → x ≡ ones word → x * w ≤ 32 * w
 few-times word x w e = mul-le-mul-right w (omega (arith, e, ones-few word))
+
+-- ---- the ones of a word, digit by digit
+
+-- a sum where a test passes, and 0 elsewhere
+sum-where : (t : Bool) (d : ℕ) (p : ℕ → Bool) (f : ℕ → ℕ)
+    → total d (λ j. cond (t && p j) (f j) 0) ≡ cond t (total d (λ j. cond (p j) (f j) 0)) 0
+unfolding total
+sum-where true d p f = refl
+sum-where false d p f = total-stops 0 d (λ _. 0) (omega arith) (λ _ _ _. refl)
+
+-- The ones of a word, counted once for each digit over the activities whose width has it, and each time as often as the digit
+-- is worth, are the sum of its activities' widths.
+pub by-digits : (widths : Widths) (word : ℕ)
+    → total (min (widths .depth) 8) (λ j. ones (bitAnd word (getD (widths .planes) j 0)) * 2 ^ j) ≡ loadFrom widths word
+unfolding loadFrom ones
+by-digits widths word =
+    total-ext d _ _ (λ j _.
+    ap (λ (k : ℕ). k * 2 ^ j) (count-ext 32 (bit (bitAnd word (plane j))) (λ a. bit word a && bit (plane j) a) (λ a _.
+    bit-and word (plane j) a))
+    ∙ sym (total-counted 32 (λ a. bit word a && bit (plane j) a) (2 ^ j)))
+    ∙ total-exchange d 32 (λ j a. cond (bit word a && bit (plane j) a) (2 ^ j) 0)
+    ∙ total-ext 32 _ _ (λ a _. sum-where (bit word a) d (λ j. bit (plane j) a) (λ j. 2 ^ j))
+  where
+    d : ℕ
+    d = min (widths .depth) 8
+
+    plane : ℕ → ℕ
+    plane j = getD (widths .planes) j 0
 
 -- ---- the widths by digits
 
@@ -81,18 +109,6 @@ module _ (m : Model) (narrow : (a : ℕ) → m .width a < 256) where
       let both = T-and (ltb a (m .activities)) (bit (m .width a) j) .0 t in
       bit-high (m .width a) (depthOf m) j (width-digits a (ltb→lt a (m .activities) (both .0)) k) h (both .1)))
 
-  -- what a digit adds, activity by activity
-  by-digit : (word j : ℕ) → j < 8
-      → ones (bitAnd word (getD (table 8 (planeOf m)) j 0)) * 2 ^ j
-      ≡ total 32 (λ a. cond (bit word a && (ltb a (m .activities) && bit (m .width a) j)) (2 ^ j) 0)
-  unfolding ones
-  by-digit word j l =
-      ap (λ (k : ℕ). count 32 (bit (bitAnd word k)) * 2 ^ j) (getD-table 0 8 (planeOf m) j l)
-      ∙ ap (λ (k : ℕ). k * 2 ^ j)
-      (count-ext 32 (bit (bitAnd word (planeOf m j))) (λ a. bit word a && (ltb a (m .activities) && bit (m .width a) j)) (λ a k.
-      bit-and word (planeOf m j) a ∙ ap (λ (x : Bool). bit word a && x) (bit-among m (λ a. bit (m .width a) j) a k)))
-      ∙ sym (total-counted 32 (λ a. bit word a && (ltb a (m .activities) && bit (m .width a) j)) (2 ^ j))
-
   -- the activities among the first 32 numbers are all that a word has
   all-active : (word : ℕ) → word < 2 ^ 32
       → total 32 (λ a. cond (bit word a && ltb a (m .activities)) (m .width a) 0) ≡ coresOf m (bit word)
@@ -117,15 +133,23 @@ module _ (m : Model) (narrow : (a : ℕ) → m .width a < 256) where
   pub load-is : (word : ℕ) → word < 2 ^ 32 → loadFrom (widthsOf m) word ≡ coresOf m (bit word)
   unfolding loadFrom widthsOf
   load-is word small =
-      ap (λ (d : ℕ). total d (λ j. ones (bitAnd word (getD (table 8 (planeOf m)) j 0)) * 2 ^ j)) depth
-      ∙ total-ext (depthOf m) _ _ (λ j l. by-digit word j (omega (arith, depth-few)))
-      ∙ total-exchange (depthOf m) 32 (λ j a. cond (bit word a && (ltb a (m .activities) && bit (m .width a) j)) (2 ^ j) 0)
-      ∙ total-ext 32 _ _ (λ a k. digits-where (bit word a) (ltb a (m .activities)) (depthOf m) (m .width a)
+      ap (λ (d : ℕ). total 32 (λ a. cond (bit word a) (total d (digit a)) 0)) whole
+      ∙ total-ext 32 _ _ (λ a k.
+      sym (sum-where (bit word a) (depthOf m) (λ j. bit (getD (table 8 (planeOf m)) j 0) a) (λ j. 2 ^ j))
+      ∙ total-ext (depthOf m) _ _ (λ j l. ap (λ (x : Bool). cond (bit word a && x) (2 ^ j) 0) (digit-is a j k (omega (arith, depth-few))))
+      ∙ digits-where (bit word a) (ltb a (m .activities)) (depthOf m) (m .width a)
       (λ t. width-digits a (ltb→lt a (m .activities) t) k))
       ∙ all-active word small
     where
-      depth : min (depthOf m) 8 ≡ depthOf m
-      depth = omega (arith, depth-few)
+      digit : ℕ → ℕ → ℕ
+      digit a j = cond (bit (getD (table 8 (planeOf m)) j 0) a) (2 ^ j) 0
+
+      whole : min (depthOf m) 8 ≡ depthOf m
+      whole = omega (arith, depth-few)
+
+      digit-is : (a j : ℕ) → a < 32 → j < 8
+          → bit (getD (table 8 (planeOf m)) j 0) a ≡ (ltb a (m .activities) && bit (m .width a) j)
+      digit-is a j k l = ap (λ (w : ℕ). bit w a) (getD-table 0 8 (planeOf m) j l) ∙ bit-among m (λ i. bit (m .width i) j) a k
 
   -- ---- how they are made, from a table of the widths
 
@@ -155,10 +179,10 @@ module _ (m : Model) (narrow : (a : ℕ) → m .width a < 256) where
 
 -- at most 32 ones for each of at most 8 digits
 pub load-bound : (widths : Widths) (word : ℕ) → loadFrom widths word ≤ 32768
-unfolding loadFrom
 load-bound widths word =
     omega (
       arith,
+      by-digits widths word,
       total-bound (min (widths .depth) 8) (λ j. ones (bitAnd word (getD (widths .planes) j 0)) * 2 ^ j) 4096 (λ j l.
           omega (
             arith,
@@ -169,8 +193,8 @@ load-bound widths word =
 
 -- a word without activities takes no core
 pub load-none : (widths : Widths) → loadFrom widths 0 ≡ 0
-unfolding loadFrom ones count bit
+unfolding loadFrom
 load-none widths =
-    total-stops 0 (min (widths .depth) 8) (λ j. ones (bitAnd 0 (getD (widths .planes) j 0)) * 2 ^ j) (omega arith) (λ j _ _.
-    ap (λ (w : ℕ). ones w * 2 ^ j) (and-zero-l (getD (widths .planes) j 0)) ∙ zero-mul (2 ^ j))
+    total-stops 0 32 (λ a. cond (bit 0 a) (widthIn widths a) 0) (omega arith) (λ a _ _.
+    ap (λ (x : Bool). cond x (widthIn widths a) 0) (bit-zero a))
     ∙ total-start _

@@ -1,10 +1,10 @@
--- The widths of a model's activities by binary digits, and the cores that a word's activities take, counted by them.
+-- The widths of a model's activities by binary digits, and the cores that a word's activities take by them.
 -- Assumes nothing.
-use Prim.Native.Nat.{ℕ, _*_, _^_, min}
-use lib.Bits.{bitAnd}
+use Prim.Native.Nat.{ℕ, _^_, min}
+use mathlib.Core.Bool.{cond}
 use lib.Dec.{ltb}
 use lib.ListN.{getD}
-use Rattle.schedule.specs.Bounded.{bit, total, greatest, lowest, ones, table}
+use Rattle.schedule.specs.Bounded.{bit, total, greatest, lowest, table}
 use Rattle.schedule.specs.Model.{Model}
 use Rattle.tables.specs.Columns.{amongActivities}
 use Rattle.tables.specs.declared.loads.Widths.{Widths}
@@ -20,6 +20,10 @@ depthOf m = lowest 8 (λ d. ltb (greatest (min (m .activities) 32) (m .width)) (
 unfoldable pub widthsOf : Model → Widths
 widthsOf m = record { planes = table 8 (planeOf m); depth = depthOf m }
 
--- the ones of a word, once for each digit, over the activities whose width has it
+-- the width that the planes give activity a
+abbrev pub widthIn : Widths → ℕ → ℕ
+widthIn widths a = total (min (widths .depth) 8) (λ j. cond (bit (getD (widths .planes) j 0) a) (2 ^ j) 0)
+
+-- the cores that a word's activities take by them: the sum of their widths
 unfoldable pub loadFrom : Widths → ℕ → ℕ
-loadFrom widths word = total (min (widths .depth) 8) (λ j. ones (bitAnd word (getD (widths .planes) j 0)) * 2 ^ j)
+loadFrom widths word = total 32 (λ a. cond (bit word a) (widthIn widths a) 0)

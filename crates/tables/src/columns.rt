@@ -1,7 +1,6 @@
 // Columns of the records by activity.
 use crate::ByActivity;
 use records::model::Activity;
-use records::model::Thread;
 ghost use mathlib.Core.Path.{_≡_};
 ghost use Prim.Native.Nat.{min};
 ghost use Rattle.schedule.specs.Model.{model};
@@ -49,13 +48,6 @@ fn among(s: &[u8], mask: u32) -> u32
     mask & bits::below(sizes.activities as u32)
 }
 
-// The thread of an activity.
-fn owner(s: &[u8], a: Activity) -> Thread
-    ensures { λ r. ⌜ r .0 ≡ model (now (s .entry)) .thread (a .0) ⌝ }
-{
-    records::model::activity_row(s, a).thread
-}
-
 // A column's entry for activity a: "priority is looked up by an activity's thread", and so are release and period.
 fn entry(which: Column, s: &[u8], second: &[u8], a: Activity) -> u32
     ensures { λ r. ⌜ r ≡ entryOf which (now (s .entry)) (now (second .entry)) (a .0) ⌝ }
@@ -64,10 +56,16 @@ fn entry(which: Column, s: &[u8], second: &[u8], a: Activity) -> u32
         Column::Delay => wide(records::model::activity_row(s, a).delay),
         Column::Temporal => among(s, records::model::activity_row(s, a).temporal_mask),
         Column::ByData => among(s, records::model::activity_row(s, a).data_mask),
-        Column::Width => records::model::activity_row(s, a).width as u32,
-        Column::Priority => wide(records::model::thread_row(s, owner(s, a)).priority),
-        Column::ChosenRelease => wide(records::choice::thread_row(second, owner(s, a)).release),
-        Column::ChosenPeriod => wide(records::choice::thread_row(second, owner(s, a)).period),
+        Column::Width => records::model::width(s, a) as u32,
+        Column::Priority => wide(
+            records::model::thread_row(s, records::model::owner(s, a)).priority,
+        ),
+        Column::ChosenRelease => wide(
+            records::choice::thread_row(second, records::model::owner(s, a)).release,
+        ),
+        Column::ChosenPeriod => wide(
+            records::choice::thread_row(second, records::model::owner(s, a)).period,
+        ),
         Column::ChosenDuration => wide(records::choice::duration(second, a)),
         Column::PlanStart => wide(records::plan::activity_row(second, a).start),
         Column::PlanEnd => wide(records::plan::activity_row(second, a).end),

@@ -19,15 +19,15 @@ pub struct Widths {
     pub depth: u32,
 }
 
-// The greatest of the first n widths.
-fn widest(n: u8, widths: &[u32; 32]) -> u32
+// The greatest of the first n entries of a column of widths.
+fn widest(n: u8, column: &[u32; 32]) -> u32
     requires { ⌜ n ≤ 32 ⌝ }
-    ensures { λ r. ⌜ r ≡ greatest n (λ a. getD (now (widths .entry)) a 0) ⌝ }
+    ensures { λ r. ⌜ r ≡ greatest n (λ a. getD (now (column .entry)) a 0) ⌝ }
 {
     let mut most: u32 = 0;
     let mut a: u8 = 0;
     while a < n {
-        most = larger(most, widths[a as usize]);
+        most = larger(most, column[a as usize]);
         a += 1;
     }
     most
@@ -38,26 +38,26 @@ fn digits(x: u32) -> u32
     ensures { λ r. ⌜ r ≡ lowest 8 (λ d. ltb x (2 ^ d)) ⌝ }
 {
     let mut d: u32 = 0;
-    let mut worth: u32 = 1;
+    let mut power: u32 = 1;
     while d < 8 {
-        if x < worth {
+        if x < power {
             return d;
         }
-        worth = 2 * worth;
+        power = 2 * power;
         d += 1;
     }
     8
 }
 
 // The activities whose width has digit j.
-fn plane(n: u8, widths: &[u32; 32], j: u32) -> u32
+fn plane(n: u8, column: &[u32; 32], j: u32) -> u32
     requires { ⌜ n ≤ 32 ⌝ }
-    ensures { λ r. ⌜ r ≡ wordOf n (λ a. bit (getD (now (widths .entry)) a 0) j) ⌝ }
+    ensures { λ r. ⌜ r ≡ wordOf n (λ a. bit (getD (now (column .entry)) a 0) j) ⌝ }
 {
     let mut word: u32 = 0;
     let mut a: u8 = 0;
     while a < n {
-        let yes = bits::has(widths[a as usize], j);
+        let yes = bits::has(column[a as usize], j);
         word = bits::mark(word, a as u32, yes);
         a += 1;
     }
@@ -70,12 +70,12 @@ pub fn widths_of(s: &[u8]) -> Widths
 {
     let n = columns::rows(s);
     // a column of the model: the second record plays no part
-    let table = columns::table(Column::Width, s, s);
-    let depth = digits(widest(n, &table));
+    let column = columns::table(Column::Width, s, s);
+    let depth = digits(widest(n, &column));
     let mut planes = [0u32; 8];
     let mut j: u32 = 0;
     while j < depth {
-        planes[j as usize] = plane(n, &table, j);
+        planes[j as usize] = plane(n, &column, j);
         j += 1;
     }
     Widths { planes, depth }

@@ -2,12 +2,12 @@
 -- Assumes nothing.
 use Prim.Native.Nat.{_≤_, _-_}
 use native.Mathlib.Omega.{arith}
-use mathlib.Core.Path.{_≡_, subst, ap, _∙_}
+use mathlib.Core.Path.{_≡_, subst, ap}
 use borrow.Author.Needs.{needs}
 use Rattle.schedule.specs.Model.{model}
 use Rattle.records.specs.declared.model.Sizes.{Sizes}
 use Rattle.records.specs.Rows.{sizesOf}
-use Rattle.machine.proofs.OrderLaws.{place-lt, ones-place, Placed, placed-none, placed-next, placed-all}
+use Rattle.machine.proofs.OrderLaws.{ones-place, Placed, placed-none, placed-next, placed-all}
 use Rattle.machine.proofs.order.Statement.{statement}
 use Rattle.machine.proofs.order.Tie as tie
 
@@ -29,8 +29,7 @@ masks-requires c κs = search needs
 loop-holds : tie.Need-loop-holds Inv-loop μ-loop
 unfolding sizesOf
 loop-holds c =
-    let x = c .before .before .before .before in
-    (omega arith, ap (λ (z : Sizes). z .activities) (c .before .before .counts .ensures), placed-none _ (x .pre))
+    (omega arith, ap (λ (y : Sizes). y .activities) (c .before .before .counts .ensures), placed-none _)
 
 mul-ones : tie.Need-mul-ones Inv-loop μ-loop
 mul-ones c = omega arith
@@ -41,26 +40,32 @@ array-read-ones c = omega arith
 ones-requires : tie.Need-ones-requires Inv-loop μ-loop
 ones-requires c κs = search needs
 
-cast-order : tie.Need-cast-order Inv-loop μ-loop
-cast-order c = omega arith
+cast-place : tie.Need-cast-place Inv-loop μ-loop
+cast-place c = omega arith
 
-cast-order-2 : tie.Need-cast-order-2 Inv-loop μ-loop
-cast-order-2 c = omega arith
+mul-with : tie.Need-mul-with Inv-loop μ-loop
+mul-with c = omega arith
+
+array-read-with : tie.Need-array-read-with Inv-loop μ-loop
+array-read-with c =
+    let c3 = c .before .before .before in
+    ones-place (model _) (c3 .masks .result) (c .before .before .loop .a) _ (c3 .before .before .before .before .pre) (omega arith)
+    (c3 .masks .ensures) (c .ones .ensures) .1
+
+cast-with : tie.Need-cast-with Inv-loop μ-loop
+cast-with c = omega arith
+
+with-requires : tie.Need-with-requires Inv-loop μ-loop
+with-requires c κs = search needs
 
 mul-order : tie.Need-mul-order Inv-loop μ-loop
 mul-order c = omega arith
 
 array-write-order : tie.Need-array-write-order Inv-loop μ-loop
 array-write-order c =
-    let c3 = c .before .before .before in
-    let x = c3 .before .before .before .before in
-    let a = c .before .before .loop .a in
-    let m = model (x .args .s .now) in
-    omega (
-      arith,
-      c .ones .ensures ∙ ones-place m (c3 .masks .result) a (x .pre) (omega arith) (c3 .masks .ensures),
-      place-lt m a (omega arith),
-    )
+    let c4 = c .before .before .before .before in
+    ones-place (model _) (c4 .masks .result) (c .before .before .before .loop .a) _ (c4 .before .before .before .before .pre)
+    (omega arith) (c4 .masks .ensures) (c .before .ones .ensures) .1
 
 add-a : tie.Need-add-a Inv-loop μ-loop
 add-a c = omega arith
@@ -70,23 +75,19 @@ loop-less c = omega arith
 
 loop-again : tie.Need-loop-again Inv-loop μ-loop
 loop-again c =
-    let c3 = c .before .before .before in
-    let x = c3 .before .before .before .before in
-    let l = c .before .before .loop in
-    let m = model (x .args .s .now) in (
-      omega arith,
-      l .inv .1,
-      placed-next m (l .a) _ _ (x .pre) (omega arith)
-          (c .ones .ensures ∙ ones-place m (c3 .masks .result) (l .a) (x .pre) (omega arith) (c3 .masks .ensures)) (l .inv .2),
-    )
+    let c4 = c .before .before .before .before in
+    let l = c .before .before .before .loop in
+    let m = model (c4 .before .before .before .before .args .s .now) in
+    let at = ones-place m (c4 .masks .result) (l .a) (c .before .ones .result) (c4 .before .before .before .before .pre)
+    (omega arith) (c4 .masks .ensures) (c .before .ones .ensures) in
+    (omega arith, l .inv .1, placed-next m (l .a) _ _ _ (omega arith) at (c .with .ensures) (l .inv .2))
 
 returns : tie.Need-returns Inv-loop μ-loop
 returns c =
-    let x = c .before .before .before .before .before .before in
+    let m = model (c .before .before .before .before .before .before .args .s .now) in
     let l = c .before .loop in
-    let m = model (x .args .s .now) in
     let whole : l .a ≡ m .activities = omega arith in
-    placed-all m _ (x .pre) (subst (λ a. Placed m a (l .order)) whole (l .inv .2))
+    placed-all m _ (subst (λ a. Placed m a (l .order)) whole (l .inv .2))
 
 pub order-spec : {M : Type 1} → statement M
 order-spec =
@@ -101,8 +102,11 @@ order-spec =
     mul-ones
     array-read-ones
     ones-requires
-    cast-order
-    cast-order-2
+    cast-place
+    mul-with
+    array-read-with
+    cast-with
+    with-requires
     mul-order
     array-write-order
     add-a

@@ -10,7 +10,7 @@ ghost use mathlib.Core.Path.{_≡_};
 ghost use Prim.Native.Nat.{_+_, _≤_};
 ghost use lib.ListN.{length};
 ghost use Rattle.schedule.specs.Fields.{field};
-ghost use Rattle.schedule.specs.Model.{page, modelLength, threadRow, activityRow, widthAt};
+ghost use Rattle.schedule.specs.Model.{page, modelLength, threadRow, activityRow};
 ghost use Rattle.records.specs.Rows.{sizesOf, threadRowOf, threadFields, activityRowOf, activityFields};
 
 // The version byte.
@@ -138,32 +138,9 @@ pub(crate) fn activity_place(s: &[u8], a: u8) -> usize
     activity_at(version(s), threads(s), a)
 }
 
-// The width of an activity row that stands at a position: "older models have width 1".
-fn width_at(s: &[u8], at: usize) -> u8
-    requires { ⌜ at ≤ 6896 ⌝ }
-    ensures { λ r. ⌜ r ≡ widthAt (now (s .entry)) at ⌝ }
-{
-    let version = version(s);
-    if version == 1 {
-        1
-    } else if version == 2 {
-        1
-    } else {
-        fields::byte(s, at + 16)
-    }
-}
-
-// Of activity row a.
-pub(crate) fn width(s: &[u8], a: u8) -> u8
-    ensures { λ r. ⌜ r ≡ page (now (s .entry)) .plain .width a ⌝ }
-{
-    width_at(s, activity_place(s, a))
-}
-
-// An activity row whose first 15 bytes are all there, read at once, without its loop byte.
+// An activity row whose first 15 bytes are all there, read at once, without its loop byte and its width.
 pub(crate) fn activity_whole(s: &[u8], at: usize) -> ActivityRow
     requires { ⌜ at + 15 ≤ length (now s) ⌝ }
-    requires most { ⌜ at ≤ 6896 ⌝ }
     ensures { λ r. ⌜ r ≡ activityFields (now (s .entry)) at ⌝ }
 {
     let owner = s[at];
@@ -174,11 +151,10 @@ pub(crate) fn activity_whole(s: &[u8], at: usize) -> ActivityRow
         delay: fields::paired(s[at + 5], s[at + 6]),
         temporal_mask: fields::joined(s[at + 7], s[at + 8], s[at + 9], s[at + 10]),
         data_mask: fields::joined(s[at + 11], s[at + 12], s[at + 13], s[at + 14]),
-        width: width_at(s, at),
     }
 }
 
-// Activity row a, without its loop byte.
+// Activity row a, without its loop byte and its width.
 pub(crate) fn activity_row(s: &[u8], a: u8) -> ActivityRow
     ensures { λ r. ⌜ r ≡ activityRowOf (page (now (s .entry)) .plain) a ⌝ }
 {
@@ -194,8 +170,14 @@ pub(crate) fn activity_row(s: &[u8], a: u8) -> ActivityRow
         delay: fields::be16(s, at + 5),
         temporal_mask: fields::be32(s, at + 7),
         data_mask: fields::be32(s, at + 11),
-        width: width_at(s, at),
     }
+}
+
+// Its thread.
+pub(crate) fn owner(s: &[u8], a: u8) -> u8
+    ensures { λ r. ⌜ r ≡ page (now (s .entry)) .plain .thread a ⌝ }
+{
+    fields::byte(s, activity_place(s, a))
 }
 
 // Its loop byte: version 1 has none.
@@ -206,5 +188,19 @@ pub(crate) fn loop_byte(s: &[u8], a: u8) -> u8
         unroll::NO_LOOP
     } else {
         fields::byte(s, activity_place(s, a) + 15)
+    }
+}
+
+// Its width: "older models have width 1".
+pub(crate) fn width(s: &[u8], a: u8) -> u8
+    ensures { λ r. ⌜ r ≡ page (now (s .entry)) .plain .width a ⌝ }
+{
+    let version = version(s);
+    if version == 1 {
+        1
+    } else if version == 2 {
+        1
+    } else {
+        fields::byte(s, activity_place(s, a) + 16)
     }
 }

@@ -1,5 +1,6 @@
 -- `checks::activity::deadline_holds` meets its contract: the thread's release and period, and the activity's end.
 -- Assumes nothing.
+use Prim.Native.Nat.{ℕ}
 use mathlib.Core.Path.{ap, ap₂, _∙_}
 use Rattle.schedule.specs.Plan.{plan}
 use Rattle.schedule.specs.Timing.{onTime, inTime}
@@ -10,8 +11,8 @@ use borrow.Author.Needs.{needs}
 use Rattle.checks.proofs.activity.deadline_holds.Statement.{statement}
 use Rattle.checks.proofs.activity.deadline_holds.Tie as tie
 
-thread-of-requires : tie.Need-thread-of-requires
-thread-of-requires c κs = search needs
+owner-requires : tie.Need-owner-requires
+owner-requires c κs = search needs
 
 thread-row-requires : tie.Need-thread-row-requires
 thread-row-requires c κs = search needs
@@ -40,14 +41,14 @@ returns c =
     c .on-time .ensures
     ∙ ap₂ (λ (y : Timing) (z : Span). onTime (y .release) (y .period) (z .end))
     (c4 .before .thread-row .ensures
-    ∙ ap (λ j. timing (plan (x .r .now) .release (j .0)) (plan (x .r .now) .period (j .0))) (c6 .thread-of .ensures))
+    ∙ ap (λ (j : ℕ). timing (plan (x .r .now) .release j) (plan (x .r .now) .period j)) (c6 .owner .ensures))
     (c4 .activity-row .ensures)
 
 pub deadline-holds-spec : {M : Type 1} → statement M
 deadline-holds-spec =
     tie.close
     (tie.spec
-    thread-of-requires
+    owner-requires
     thread-row-requires
     activity-row-requires
     cast-on-time

@@ -8,8 +8,8 @@ use borrow.Author.Needs.{needs}
 use Rattle.checks.proofs.efe.earliest.Statement.{statement}
 use Rattle.checks.proofs.efe.earliest.Tie as tie
 
-thread-of-requires : tie.Need-thread-of-requires
-thread-of-requires c κs = search needs
+owner-requires : tie.Need-owner-requires
+owner-requires c κs = search needs
 
 thread-row-requires : tie.Need-thread-row-requires
 thread-row-requires c κs = search needs
@@ -31,14 +31,14 @@ returns c =
     c .larger .ensures
     ∙ ap₂ max
     (ap (λ (y : Timing). y .release) (c .before .before .before .thread-row .ensures)
-    ∙ ap (λ j. plan (x .r .now) .release (j .0)) (c4 .thread-of .ensures))
+    ∙ ap (plan (x .r .now) .release) (c4 .owner .ensures))
     (c .before .after .ensures)
 
 pub earliest-spec : {M : Type 1} → statement M
 earliest-spec =
     tie.close
     (tie.spec
-    thread-of-requires
+    owner-requires
     thread-row-requires
     cast-release
     after-requires

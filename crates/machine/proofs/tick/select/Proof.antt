@@ -1,12 +1,13 @@
--- `machine::tick::select` meets its contract: the walk along the places passed.
+-- `machine::tick::select` meets its contract: the walk along the places passed, and the others make no difference.
 -- Assumes nothing.
 use Prim.Native.Nat.{_≤_, _-_}
 use native.Mathlib.Numerals.{add-one}
 use native.Mathlib.Omega.{arith}
-use mathlib.Core.Path.{_≡_, refl, ap, _∙_}
+use mathlib.Core.Path.{_≡_, refl, sym, ap, _∙_}
 use borrow.Author.Needs.{needs}
 use Rattle.machine.specs.declared.tick.Walk.{Walk}
 use Rattle.machine.specs.Masks.{walkedFrom}
+use Rattle.machine.proofs.WalkLaws.{walk-over}
 use Rattle.machine.proofs.tick.select.Statement.{statement}
 use Rattle.machine.proofs.tick.select.Tie as tie
 
@@ -44,7 +45,7 @@ loop-less c = omega arith
 loop-again : tie.Need-loop-again Inv-loop μ-loop
 unfolding walkedFrom
 loop-again c =
-    let l = c .before .before .before .before .loop in
+    let l = c .before .before .before .before .before .before .loop in
     (omega arith, rw (add-one (l .k), ← l .inv .1) (c .take .ensures))
 
 returns : tie.Need-returns Inv-loop μ-loop
@@ -53,6 +54,13 @@ returns c =
     let l = c .before .loop in
     let whole : l .k ≡ x .n = omega arith in
     ap (λ (w : Walk). w .word) (l .inv .1) ∙ ap (λ k. walkedFrom (x .c) (x .ready) (x .tables .now) k .word) whole
+
+returns-2 : tie.Need-returns-2 Inv-loop μ-loop
+returns-2 c =
+    let x = c .before .before .before .before .args in
+    let l = c .before .before .before .loop in
+    let none = ap (λ (w : Walk). w .rest) (sym (l .inv .1)) ∙ c .if1 .taken in
+    ap (λ (w : Walk). w .word) (l .inv .1 ∙ walk-over (x .c) (x .ready) (x .tables .now) (l .k) (x .n) (l .inv .0) none)
 
 pub select-spec : {M : Type 1} → statement M
 select-spec =
@@ -69,4 +77,5 @@ select-spec =
     add-k
     loop-less
     loop-again
-    returns)
+    returns
+    returns-2)

@@ -1,53 +1,48 @@
--- `machine::tick::take` meets its contract: the two tests in turn.
+-- `machine::tick::take` meets its contract: none is ready at the place, or the one there is passed.
 -- Assumes nothing.
-use mathlib.Core.Path.{sym, subst, _∙_}
-use lib.Dec.{T}
 use native.Mathlib.Omega.{arith}
+use lib.Bits.{and-le-r}
 use borrow.Author.Needs.{needs}
-use borrow.Author.Tests.{le-leb, lt-leb}
+use borrow.Author.Tests.{eq-eqb, ne-eqb}
+use Rattle.bits.proofs.Apart.{lowest-lt}
 use Rattle.machine.specs.Masks.{taking}
-use Rattle.machine.proofs.WalkLaws.{bit-lt}
 use Rattle.machine.proofs.tick.take.Statement.{statement}
 use Rattle.machine.proofs.tick.take.Tie as tie
 
-has-requires : tie.Need-has-requires
-has-requires c κs = search needs
-
-mul-width : tie.Need-mul-width
-mul-width c = search needs
-
-element-copy-out-width : tie.Need-element-copy-out-width
-element-copy-out-width c =
-    let x = c .before .before in
-    bit-lt (x .args .ready) 32 (x .args .a) (omega arith) (subst T (sym (c .if1 .taken) ∙ c .before .has .ensures) tt)
-
-with-requires : tie.Need-with-requires
-with-requires c κs = search needs
-
 returns : tie.Need-returns
 unfolding taking
-returns c =
-    let c5 = c .before .before .before .before .before in
-    simp (← c5 .before .has .ensures, c5 .if1 .taken, le-leb _ _ (c .before .before .if2 .taken), c .before .with .ensures)
+returns c = rw (eq-eqb _ 0 (c .if1 .taken))
+
+lowest-requires : tie.Need-lowest-requires
+lowest-requires c κs = search needs
+
+cast-pass : tie.Need-cast-pass
+cast-pass c = search needs
+
+mul-pass : tie.Need-mul-pass
+mul-pass c = search needs
+
+element-copy-out-pass : tie.Need-element-copy-out-pass
+element-copy-out-pass c =
+    let x = c .before .before .before .args in
+    lowest-lt _ (c .lowest .result) (omega (arith, and-le-r (x .walk .rest) (x .mask))) (c .before .if1 .left) (c .lowest .ensures)
+
+pass-requires : tie.Need-pass-requires
+pass-requires c κs = search needs
 
 returns-2 : tie.Need-returns-2
 unfolding taking
 returns-2 c =
-    let c3 = c .before .before .before in
-    simp (← c3 .before .has .ensures, c3 .if1 .taken, lt-leb _ _ (c .if2 .left))
-
-returns-3 : tie.Need-returns-3
-unfolding taking
-returns-3 c = simp (← c .before .has .ensures, c .if1 .left)
+    rw (ne-eqb _ 0 (c .before .before .before .if1 .left), ← c .before .before .lowest .ensures) (c .pass .ensures)
 
 pub take-spec : {M : Type 1} → statement M
 take-spec =
     tie.close
     (tie.spec
-    has-requires
-    mul-width
-    element-copy-out-width
-    with-requires
     returns
-    returns-2
-    returns-3)
+    lowest-requires
+    cast-pass
+    mul-pass
+    element-copy-out-pass
+    pass-requires
+    returns-2)

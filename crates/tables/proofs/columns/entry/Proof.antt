@@ -44,8 +44,8 @@ among-requires-2 c κs = search needs
 enum-told-4 : tie.Need-enum-told-4
 enum-told-4 c = search needs
 
-activity-row-requires-4 : tie.Need-activity-row-requires-4
-activity-row-requires-4 c κs = search needs
+width-requires : tie.Need-width-requires
+width-requires c κs = search needs
 
 cast-result : tie.Need-cast-result
 cast-result c = search needs
@@ -98,8 +98,8 @@ wide-requires-5 c κs = search needs
 enum-told-9 : tie.Need-enum-told-9
 enum-told-9 c = search needs
 
-activity-row-requires-5 : tie.Need-activity-row-requires-5
-activity-row-requires-5 c κs = search needs
+activity-row-requires-4 : tie.Need-activity-row-requires-4
+activity-row-requires-4 c κs = search needs
 
 wide-requires-6 : tie.Need-wide-requires-6
 wide-requires-6 c κs = search needs
@@ -107,8 +107,8 @@ wide-requires-6 c κs = search needs
 enum-told-10 : tie.Need-enum-told-10
 enum-told-10 c = search needs
 
-activity-row-requires-6 : tie.Need-activity-row-requires-6
-activity-row-requires-6 c κs = search needs
+activity-row-requires-5 : tie.Need-activity-row-requires-5
+activity-row-requires-5 c κs = search needs
 
 wide-requires-7 : tie.Need-wide-requires-7
 wide-requires-7 c κs = search needs
@@ -136,8 +136,7 @@ returns-3 c =
     ∙ ap (λ (r : ActivityRow). amongActivities (model (x .s .now)) (bit (r .«data_mask»))) (c .before .activity-row3 .ensures))
 
 returns-4 : tie.Need-returns-4
-unfolding activityRowOf
-returns-4 c = rw (c .before .before .enum-told4 .given .1) (ap (λ (r : ActivityRow). r .width) (c .before .activity-row4 .ensures))
+returns-4 c = rw (c .before .enum-told4 .given .1) (c .width .ensures)
 
 returns-5 : tie.Need-returns-5
 unfolding threadRowOf
@@ -173,13 +172,13 @@ returns-9 : tie.Need-returns-9
 unfolding spanOf
 returns-9 c =
     rw (c .before .before .enum-told9 .given .1)
-    (c .wide6 .ensures ∙ ap (λ (r : Span). r .start) (c .before .activity-row5 .ensures))
+    (c .wide6 .ensures ∙ ap (λ (r : Span). r .start) (c .before .activity-row4 .ensures))
 
 returns-10 : tie.Need-returns-10
 unfolding spanOf
 returns-10 c =
     rw (c .before .before .enum-told10 .given .1)
-    (c .wide7 .ensures ∙ ap (λ (r : Span). r .end) (c .before .activity-row6 .ensures))
+    (c .wide7 .ensures ∙ ap (λ (r : Span). r .end) (c .before .activity-row5 .ensures))
 
 pub entry-spec : {M : Type 1} → statement M
 entry-spec =
@@ -195,7 +194,7 @@ entry-spec =
     activity-row-requires-3
     among-requires-2
     enum-told-4
-    activity-row-requires-4
+    width-requires
     cast-result
     enum-told-5
     owner-requires
@@ -213,10 +212,10 @@ entry-spec =
     duration-requires
     wide-requires-5
     enum-told-9
-    activity-row-requires-5
+    activity-row-requires-4
     wide-requires-6
     enum-told-10
-    activity-row-requires-6
+    activity-row-requires-5
     wide-requires-7
     returns
     returns-2

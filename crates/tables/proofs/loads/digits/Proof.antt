@@ -10,10 +10,10 @@ use Rattle.tables.proofs.loads.digits.Statement.{statement}
 use Rattle.tables.proofs.loads.digits.Tie as tie
 
 abbrev Inv-loop : tie.InvT-loop
-Inv-loop x d₀ worth₀ d worth = (d ≤ 8) × (worth ≡ 2 ^ d) × Clear (λ i. ltb x (2 ^ i)) d
+Inv-loop x d₀ power₀ d power = (d ≤ 8) × (power ≡ 2 ^ d) × Clear (λ i. ltb x (2 ^ i)) d
 
 abbrev μ-loop : tie.MeasureT-loop
-μ-loop x d₀ worth₀ d worth = 8 - d
+μ-loop x d₀ power₀ d power = 8 - d
 
 loop-holds : tie.Need-loop-holds Inv-loop μ-loop
 loop-holds c = (omega arith, refl, clear-none (λ i. ltb (c .args .x) (2 ^ i)))
@@ -22,11 +22,11 @@ returns : tie.Need-returns Inv-loop μ-loop
 returns c =
     let l = c .before .before .loop in
     let x = c .before .before .before .args .x in
-    found-here 8 (λ i. ltb x (2 ^ i)) (l .d) (ltb x (l .worth)) (omega arith) (l .inv .2) (ap (λ (w : ℕ). ltb x w) (l .inv .1))
-    (lt→ltb x (l .worth) (c .if1 .taken))
+    found-here 8 (λ i. ltb x (2 ^ i)) (l .d) (ltb x (l .power)) (omega arith) (l .inv .2) (ap (λ (w : ℕ). ltb x w) (l .inv .1))
+    (lt→ltb x (l .power) (c .if1 .taken))
 
-mul-worth : tie.Need-mul-worth Inv-loop μ-loop
-mul-worth c = let l = c .before .before .loop in record { fits = omega (arith, l .inv .1, worth-small (l .d) (omega arith)) }
+mul-power : tie.Need-mul-power Inv-loop μ-loop
+mul-power c = let l = c .before .before .loop in record { fits = omega (arith, l .inv .1, worth-small (l .d) (omega arith)) }
 
 add-d : tie.Need-add-d Inv-loop μ-loop
 add-d c = omega arith
@@ -40,8 +40,8 @@ loop-again c =
     let x = c .before .before .before .args .x in (
       omega arith,
       ap (λ (w : ℕ). 2 * w) (l .inv .1) ∙ doubled (l .d),
-      clear-more (λ i. ltb x (2 ^ i)) (l .d) (ltb x (l .worth)) (l .inv .2) (ap (λ (w : ℕ). ltb x w) (l .inv .1))
-          (λ t. omega (arith, ltb→lt x (l .worth) t, c .if1 .left)),
+      clear-more (λ i. ltb x (2 ^ i)) (l .d) (ltb x (l .power)) (l .inv .2) (ap (λ (w : ℕ). ltb x w) (l .inv .1))
+          (λ t. omega (arith, ltb→lt x (l .power) t, c .if1 .left)),
     )
 
 returns-2 : tie.Need-returns-2 Inv-loop μ-loop
@@ -55,4 +55,4 @@ returns-2 c =
 pub digits-spec : {M : Type 1} → statement M
 digits-spec =
     tie.close
-    (tie.spec Inv-loop μ-loop loop-holds returns mul-worth add-d loop-less loop-again returns-2)
+    (tie.spec Inv-loop μ-loop loop-holds returns mul-power add-d loop-less loop-again returns-2)

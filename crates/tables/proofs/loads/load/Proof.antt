@@ -9,8 +9,7 @@ use lib.ListN.{getD}
 use borrow.Author.Needs.{needs}
 use Rattle.schedule.specs.Bounded.{ones, total}
 use Rattle.laws.proofs.Steps.{total-next, total-start}
-use Rattle.tables.specs.Loads.{loadFrom}
-use Rattle.tables.proofs.LoadLaws.{doubled, worth-small, few-times}
+use Rattle.tables.proofs.LoadLaws.{doubled, worth-small, few-times, by-digits}
 use Rattle.tables.proofs.loads.load.Statement.{statement}
 use Rattle.tables.proofs.loads.load.Tie as tie
 
@@ -87,12 +86,13 @@ loop-again c =
     )
 
 returns : tie.Need-returns Inv-loop μ-loop
-unfolding loadFrom
 returns c =
     let l = c .before .loop in
     let x = c .before .before .before .before .args in
     let whole : l .j ≡ min (x .widths .depth) 8 = omega (arith, c .before .before .smaller .ensures) in
-    l .inv .4 ∙ ap (λ k. total k (λ i. ones (bitAnd (x .word) (getD (x .widths .planes) i 0)) * 2 ^ i)) whole
+    l .inv .4
+    ∙ ap (λ k. total k (λ i. ones (bitAnd (x .word) (getD (x .widths .planes) i 0)) * 2 ^ i)) whole
+    ∙ by-digits (x .widths) (x .word)
 
 pub load-spec : {M : Type 1} → statement M
 load-spec =

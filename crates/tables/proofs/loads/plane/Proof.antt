@@ -11,10 +11,10 @@ use Rattle.tables.proofs.loads.plane.Statement.{statement}
 use Rattle.tables.proofs.loads.plane.Tie as tie
 
 abbrev Inv-loop : tie.InvT-loop
-Inv-loop n widths j word₀ a₀ word a = (a ≤ n) × (word ≡ wordOf a (λ i. bit (getD widths i 0) j))
+Inv-loop n column j word₀ a₀ word a = (a ≤ n) × (word ≡ wordOf a (λ i. bit (getD column i 0) j))
 
 abbrev μ-loop : tie.MeasureT-loop
-μ-loop n widths j word₀ a₀ word a = n - a
+μ-loop n column j word₀ a₀ word a = n - a
 
 loop-holds : tie.Need-loop-holds Inv-loop μ-loop
 loop-holds c = (omega arith, sym (word-start _))
@@ -53,7 +53,7 @@ returns : tie.Need-returns Inv-loop μ-loop
 returns c =
     let x = c .before .before .args in
     let whole : c .before .loop .a ≡ x .n = omega arith in
-    c .before .loop .inv .1 ∙ ap (λ k. wordOf k (λ i. bit (getD (x .widths .now) i 0) (x .j))) whole
+    c .before .loop .inv .1 ∙ ap (λ k. wordOf k (λ i. bit (getD (x .column .now) i 0) (x .j))) whole
 
 pub plane-spec : {M : Type 1} → statement M
 plane-spec =

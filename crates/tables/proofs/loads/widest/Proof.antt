@@ -11,10 +11,10 @@ use Rattle.tables.proofs.loads.widest.Statement.{statement}
 use Rattle.tables.proofs.loads.widest.Tie as tie
 
 abbrev Inv-loop : tie.InvT-loop
-Inv-loop n widths most₀ a₀ most a = (a ≤ n) × (most ≡ greatest a (λ i. getD widths i 0))
+Inv-loop n column most₀ a₀ most a = (a ≤ n) × (most ≡ greatest a (λ i. getD column i 0))
 
 abbrev μ-loop : tie.MeasureT-loop
-μ-loop n widths most₀ a₀ most a = n - a
+μ-loop n column most₀ a₀ most a = n - a
 
 loop-holds : tie.Need-loop-holds Inv-loop μ-loop
 loop-holds c = (omega arith, sym (greatest-start _))
@@ -43,15 +43,15 @@ loop-again c =
     let x = c .before .before .before .before .args in (
       omega arith,
       c .larger .ensures
-          ∙ ap (λ k. max k (getD (x .widths .now) (l .a) 0)) (l .inv .1)
-          ∙ sym (greatest-next (l .a) (λ i. getD (x .widths .now) i 0)),
+          ∙ ap (λ k. max k (getD (x .column .now) (l .a) 0)) (l .inv .1)
+          ∙ sym (greatest-next (l .a) (λ i. getD (x .column .now) i 0)),
     )
 
 returns : tie.Need-returns Inv-loop μ-loop
 returns c =
     let x = c .before .before .args in
     let whole : c .before .loop .a ≡ x .n = omega arith in
-    c .before .loop .inv .1 ∙ ap (λ k. greatest k (λ i. getD (x .widths .now) i 0)) whole
+    c .before .loop .inv .1 ∙ ap (λ k. greatest k (λ i. getD (x .column .now) i 0)) whole
 
 pub widest-spec : {M : Type 1} → statement M
 widest-spec =

@@ -14,11 +14,11 @@ use Rattle.tables.proofs.loads.widths_of.Statement.{statement}
 use Rattle.tables.proofs.loads.widths_of.Tie as tie
 
 abbrev Inv-loop : tie.InvT-loop
-Inv-loop s n table depth planes₀ j₀ planes j =
+Inv-loop s n column depth planes₀ j₀ planes j =
     (j ≤ depth) × (depth ≤ 8) × (depth ≡ depthOf (model s)) × FilledTo 8 j (planeOf (model s)) planes
 
 abbrev μ-loop : tie.MeasureT-loop
-μ-loop s n table depth planes₀ j₀ planes j = depth - j
+μ-loop s n column depth planes₀ j₀ planes j = depth - j
 
 rows-requires : tie.Need-rows-requires Inv-loop μ-loop
 rows-requires c κs = search needs
