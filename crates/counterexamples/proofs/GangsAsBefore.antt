@@ -7,7 +7,8 @@ use native.Mathlib.Omega.{arith}
 use mathlib.Core.List.{List, [], _∷_, _++_, map}
 use mathlib.Core.Path.{_≡_, refl}
 use Rattle.schedule.specs.Bounded.{ones, table}
-use Rattle.schedule.specs.Model.{model}
+use Rattle.schedule.specs.Rule.{Rule}
+use Rattle.schedule.specs.Model.{Model, model, modelForm}
 use Rattle.schedule.specs.Choice.{choice}
 use Rattle.schedule.specs.Answers.{Answer, Figures, plainVerdict, strictVerdict, machinePlan, runAnswer}
 use Rattle.schedule.specs.Cases.{every, accepts, refuses, printed}
@@ -61,8 +62,10 @@ today s r =
 
 abbrev formerly : List ℕ → List ℕ → Said
 formerly s r =
-    says (table (model s .horizon) (FormerAnswers.machinePlan (model s) (choice chosen) .word))
-    (printed (FormerAnswers.runAnswer s chosen runRoom)) (FormerChecks.plainVerdict s r) (FormerChecks.strictVerdict s r)
+    let form : List Rule = modelForm s in
+    let m : Model = model s in
+    says (table (m .horizon) (FormerAnswers.machinePlan m (choice chosen) .word))
+    (printed (FormerAnswers.runAnswer form m chosen runRoom)) (FormerChecks.plainVerdict form m r) (FormerChecks.strictVerdict form m r)
 
 pub record Case : Type 0 where
   pub model-bytes : List ℕ
@@ -118,7 +121,7 @@ unfolding every everyFormer
 gangs-as-before = (refl, refl)
 
 -- not every model is answered as before
-pub gangs-change : ¬ ((s : List ℕ) → AnswersAsBefore s)
+pub gangs-change : ¬ ((s : List ℕ) → AnswersAsBefore s (modelForm s) (model s))
 unfolding every everyFormer
 gangs-change all =
     let wrong : _≡_ {A = ℕ} 5 3 = all (gangs 2 5 3 3) .words (λ _. 0) (λ _. 1) 0 in

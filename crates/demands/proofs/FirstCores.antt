@@ -15,7 +15,7 @@ use Rattle.schedule.specs.Rule.{Rule}
 use Rattle.schedule.specs.Model.{Model}
 use Rattle.schedule.specs.Timing.{deadlineRule}
 use Rattle.schedule.specs.Choice.{Choice, choiceTiming}
-use Rattle.schedule.specs.Machine.{State, owes, endOf, ready, before, selected, wordAt, step, stateAt}
+use Rattle.schedule.specs.Machine.{State, owes, endOf, ready, before, wordAt, step, stateAt}
 use Rattle.schedule.specs.Machine.{machineWord, machineStart, machineEnd, machineOwes}
 use Rattle.schedule.specs.Checks.{coresOf, ahead}
 use Rattle.schedule.specs.Answers.{machinePlan, owedRule, runRules}
@@ -23,7 +23,7 @@ use Rattle.laws.proofs.Counting.{decT, T-ext, count-mono}
 use Rattle.laws.proofs.Cores.{cost, spared}
 use Rattle.laws.proofs.Lowest.{lowest-ext}
 use Rattle.laws.proofs.Rank.{before-says, before-is, before-trans}
-use Rattle.laws.proofs.Selection.{selected-fits}
+use Rattle.laws.proofs.Selection.{selected, selected-fits}
 use Rattle.laws.proofs.Sums.{total-ext, total-counted, total-less}
 use Rattle.laws.proofs.Tests.{T-and, T-ltb}
 use Rattle.laws.proofs.Words.{wordOf-ext}

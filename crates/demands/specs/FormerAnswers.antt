@@ -1,23 +1,25 @@
--- What the run and the report answered before U7 of 02, and what they left in the lent buffer and in the lent list: with the
--- former machine and the former usage. The input rules, the lengths and the deadlines are today's.
+-- What the run, the report and the held view answered before U7 of 02, and what was left in the lent buffer and in the lent list: with
+-- the former machine and the former usage. A choice's and a plan's form rules, the lengths and the deadlines are today's. A model's
+-- bytes are not read here: what is answered is by the form rules of its record and by the model that it says.
 -- Assumes nothing.
 use Prim.Native.Nat.{ℕ}
 use mathlib.Core.Bool.{true, false, cond}
 use mathlib.Core.List.{List, [], _∷_, _++_}
-use mathlib.Core.Option.{some, none}
+use mathlib.Core.Option.{Option, some, none}
 use mathlib.Core.Path.{_≡_}
 use lib.Dec.{eqb, ltb}
 use lib.IntN.{ℤ}
 use lib.ListN.{length, drop, replicate}
 use Rattle.schedule.specs.Bounded.{table}
-use Rattle.schedule.specs.Rule.{Rule, firstBreak}
-use Rattle.schedule.specs.Model.{Model, model}
+use Rattle.schedule.specs.Rule.{Rule, Refusal, firstBreak}
+use Rattle.schedule.specs.Model.{Model}
 use Rattle.schedule.specs.Timing.{deadlineRule}
-use Rattle.schedule.specs.Choice.{Choice, choice, choiceTiming}
-use Rattle.schedule.specs.Plan.{Plan, planBytes}
-use Rattle.schedule.specs.Answers.{Answer, answer, Written, lengthNeeded, runChecks}
+use Rattle.schedule.specs.Choice.{Choice, choice, choiceTiming, choiceForm}
+use Rattle.schedule.specs.Plan.{Plan, plan, planForm, planBytes}
+use Rattle.schedule.specs.Answers.{Answer, answer, Written, lengthNeeded}
 use Rattle.schedule.specs.Answers.{Outcome, from-input, from-buffer, from-run, succeeded, answerOf}
 use Rattle.schedule.specs.Report.{lateness, rowsRule, fills}
+use Rattle.schedule.specs.Streams.{WordOrPast, word, past, orPast}
 use Rattle.demands.specs.FormerMachine.{machineWord, machineStart, machineEnd, machineOwes}
 use Rattle.demands.specs.FormerChecks.{figures}
 
@@ -63,12 +65,12 @@ unfoldable pub outcome : Model → Choice → ℕ → Outcome
 outcome m q room =
     cond (ltb room (lengthNeeded m)) (from-buffer (record { number = 41; A = lengthNeeded m; B = 0 })) (concluded m q)
 
-unfoldable pub runOutcome : List ℕ → List ℕ → ℕ → Outcome
-runOutcome s q room =
-    elim (firstBreak (runChecks s q)) [ some x ↦ from-input x | none ↦ outcome (model s) (choice q) room ]
+unfoldable pub runOutcome : List Rule → Model → List ℕ → ℕ → Outcome
+runOutcome form m q room =
+    elim (firstBreak (form ++ choiceForm m q)) [ some x ↦ from-input x | none ↦ outcome m (choice q) room ]
 
-unfoldable pub runAnswer : List ℕ → List ℕ → ℕ → Answer Written
-runAnswer s q room = answerOf (runOutcome s q room)
+unfoldable pub runAnswer : List Rule → Model → List ℕ → ℕ → Answer Written
+runAnswer form m q room = answerOf (runOutcome form m q room)
 
 -- the lent buffer after it
 unfoldable pub bufferAfter : Outcome → Model → Choice → List ℕ → List ℕ
@@ -77,22 +79,30 @@ bufferAfter (from-buffer x) m q buffer = buffer
 bufferAfter (from-run x) m q buffer = replicate (lengthNeeded m) 0 ++ drop (lengthNeeded m) buffer
 bufferAfter (succeeded w) m q buffer = planBytes (machinePlan m q) ++ drop (w .length) buffer
 
-unfoldable pub runBuffer : List ℕ → List ℕ → List ℕ → List ℕ
-runBuffer s q buffer = bufferAfter (runOutcome s q (length buffer)) (model s) (choice q) buffer
+unfoldable pub runBuffer : List Rule → Model → List ℕ → List ℕ → List ℕ
+runBuffer form m q buffer = bufferAfter (runOutcome form m q (length buffer)) m (choice q) buffer
 
 -- ---- the report
 
-unfoldable pub reportAnswer : List ℕ → List ℕ → ℕ → Answer Written
-reportAnswer s q lent =
-    answer (firstBreak (runChecks s q ++ (rowsRule lent ∷ runRules (model s) (choice q)))) (written (model s) (choice q))
+unfoldable pub reportAnswer : List Rule → Model → List ℕ → ℕ → Answer Written
+reportAnswer form m q lent =
+    answer (firstBreak ((form ++ choiceForm m q) ++ (rowsRule lent ∷ runRules m (choice q)))) (written m (choice q))
 
 unfoldable pub reportRow : Model → Choice → ℕ → ℤ
 reportRow m q a =
     lateness (q .release (m .thread a)) (q .period (m .thread a)) (machineEnd m (q .release) (q .duration) a)
 
 -- the lent list after it
-unfoldable pub reportRows : List ℕ → List ℕ → List ℤ → List ℤ
-reportRows s q list = elim (fills (reportAnswer s q (length list))) [
-  | true ↦ table (model s .activities) (reportRow (model s) (choice q)) ++ drop (model s .activities) list
+unfoldable pub reportRows : List Rule → Model → List ℕ → List ℤ → List ℤ
+reportRows form m q list = elim (fills (reportAnswer form m q (length list))) [
+  | true ↦ table (m .activities) (reportRow m (choice q)) ++ drop (m .activities) list
   | false ↦ list
 ]
+
+-- ---- the held view of a plan's grid
+
+unfoldable pub viewRefusal : List Rule → Model → List ℕ → Option Refusal
+viewRefusal form m r = firstBreak (form ++ planForm m r)
+
+unfoldable pub viewWord : List Rule → Model → List ℕ → ℕ → WordOrPast
+viewWord form m r t = orPast (viewRefusal form m r) (cond (ltb t (plan r .horizon)) (word (plan r .word t)) past)

@@ -1,5 +1,6 @@
 -- The checks as they were before U7 of 02: rules 28 to 31 of 01 count the ones in a word, every waiting activity counts in 29, 30
--- and 31, and usage is all ones. The form rules and rules 21 to 27 are today's.
+-- and 31, and usage is all ones. A plan's form rules and rules 21 to 27 are today's. A model's bytes are not read here: the verdicts
+-- are by the form rules of its record and by the model that it says.
 -- Assumes nothing.
 use Prim.Native.Nat.{ℕ, _-_, _*_, _≤_, _<_}
 use mathlib.Core.Bool.{not}
@@ -8,7 +9,7 @@ use mathlib.Core.Path.{_≡_}
 use lib.Dec.{T, eqb, leb, ltb}
 use Rattle.schedule.specs.Bounded.{all, total, greatest, least, ones, _⇒_}
 use Rattle.schedule.specs.Rule.{Rule, firstBreak}
-use Rattle.schedule.specs.Model.{Model, model, modelForm, priorityOf}
+use Rattle.schedule.specs.Model.{Model, priorityOf}
 use Rattle.schedule.specs.Plan.{Plan, plan, planForm, active}
 use Rattle.schedule.specs.Checks.{Waiting, waits, rule21, rule22, rule23, rule25, rule26, rule27}
 use Rattle.schedule.specs.Answers.{Answer, answer, Figures}
@@ -81,11 +82,11 @@ figures m p = record {
   makespan = greatest (m .activities) (p .end) - least (m .threads) (p .release);
 }
 
--- both verdicts on a model's and a plan's bytes
-unfoldable pub plainVerdict : List ℕ → List ℕ → Answer Figures
-plainVerdict s r =
-    answer (firstBreak (modelForm s ++ (planForm (model s) r ++ plainRules (model s) (plan r)))) (figures (model s) (plan r))
+-- both verdicts on a model, its form rules in front, and a plan's bytes
+unfoldable pub plainVerdict : List Rule → Model → List ℕ → Answer Figures
+plainVerdict form m r =
+    answer (firstBreak (form ++ (planForm m r ++ plainRules m (plan r)))) (figures m (plan r))
 
-unfoldable pub strictVerdict : List ℕ → List ℕ → Answer Figures
-strictVerdict s r =
-    answer (firstBreak (modelForm s ++ (planForm (model s) r ++ strictRules (model s) (plan r)))) (figures (model s) (plan r))
+unfoldable pub strictVerdict : List Rule → Model → List ℕ → Answer Figures
+strictVerdict form m r =
+    answer (firstBreak (form ++ (planForm m r ++ strictRules m (plan r)))) (figures m (plan r))

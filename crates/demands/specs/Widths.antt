@@ -9,13 +9,14 @@ use mathlib.Core.Path.{_≡_}
 use lib.IntN.{ℤ}
 use Rattle.schedule.specs.Bounded.{total}
 use Rattle.schedule.specs.Fields.{field}
-use Rattle.schedule.specs.Rule.{firstBreak}
-use Rattle.schedule.specs.Model.{Model, model, modelForm}
+use Rattle.schedule.specs.Rule.{Rule, firstBreak}
+use Rattle.schedule.specs.Model.{Model, page, model, modelForm}
 use Rattle.schedule.specs.Plan.{Plan}
 use Rattle.schedule.specs.Machine.{machineWord, machineStart, machineEnd, machineOwes}
 use Rattle.schedule.specs.Checks.{countOf}
 use Rattle.schedule.specs.Answers.{figures, plainVerdict, strictVerdict, runAnswer, runBuffer}
 use Rattle.schedule.specs.Report.{reportAnswer, reportRows}
+use Rattle.schedule.specs.Streams.{viewRefusal, viewWord}
 use Rattle.demands.specs.FormerForm
 use Rattle.demands.specs.FormerMachine
 use Rattle.demands.specs.FormerChecks
@@ -32,33 +33,44 @@ Older s = (field s 4 1 ≡ 1) ⊎ (field s 4 1 ≡ 2)
 abbrev pub OlderModels : Type 0
 OlderModels = (s : List ℕ) → Older s → OfWidthOne (model s)
 
+-- Their bytes say what they said, so the model that they unroll to is the same too.
+abbrev pub SameReading : Type 0
+SameReading = (s : List ℕ) → Older s → page s ≡ FormerForm.page s
+
 -- A record that is not of version 3 breaks the form rule that it broke before, at the same place, or none: 57 turns no older model
 -- away.
 abbrev pub SameForm : Type 0
 SameForm = (s : List ℕ) → ¬ (field s 4 1 ≡ 3) → firstBreak (modelForm s) ≡ firstBreak (FormerForm.modelForm s)
 
--- All that is answered about a model's bytes is what was answered before: both verdicts, with their figures or with their number
--- and place; the machine's words at every tick, its starts and ends, and what it owes; the run's answer and the lent buffer after
--- it; the report's answer and the lent list after it.
-pub record AnswersAsBefore (s : List ℕ) : Type 0 where
-  pub plain : (r : List ℕ) → plainVerdict s r ≡ FormerChecks.plainVerdict s r
-  pub strict : (r : List ℕ) → strictVerdict s r ≡ FormerChecks.strictVerdict s r
+-- All that is answered about a model's bytes is what was answered before of form rules and of a model that they said: both verdicts,
+-- with their figures or with their number and place; the machine's words at every tick, its starts and ends, and what it owes; the
+-- run's answer and the lent buffer after it; the report's answer and the lent list after it; the view's refusal and its words.
+pub record AnswersAsBefore (s : List ℕ) (form : List Rule) (m : Model) : Type 0 where
+  pub plain : (r : List ℕ) → plainVerdict s r ≡ FormerChecks.plainVerdict form m r
+  pub strict : (r : List ℕ) → strictVerdict s r ≡ FormerChecks.strictVerdict form m r
   pub words : (release duration : ℕ → ℕ) (t : ℕ)
-      → machineWord (model s) release duration t ≡ FormerMachine.machineWord (model s) release duration t
+      → machineWord (model s) release duration t ≡ FormerMachine.machineWord m release duration t
   pub starts : (release duration : ℕ → ℕ) (a : ℕ)
-      → machineStart (model s) release duration a ≡ FormerMachine.machineStart (model s) release duration a
+      → machineStart (model s) release duration a ≡ FormerMachine.machineStart m release duration a
   pub ends : (release duration : ℕ → ℕ) (a : ℕ)
-      → machineEnd (model s) release duration a ≡ FormerMachine.machineEnd (model s) release duration a
+      → machineEnd (model s) release duration a ≡ FormerMachine.machineEnd m release duration a
   pub owed : (release duration : ℕ → ℕ) (a : ℕ)
-      → machineOwes (model s) release duration a ≡ FormerMachine.machineOwes (model s) release duration a
-  pub run : (q : List ℕ) (room : ℕ) → runAnswer s q room ≡ FormerAnswers.runAnswer s q room
-  pub buffer : (q buffer : List ℕ) → runBuffer s q buffer ≡ FormerAnswers.runBuffer s q buffer
-  pub report : (q : List ℕ) (lent : ℕ) → reportAnswer s q lent ≡ FormerAnswers.reportAnswer s q lent
-  pub rows : (q : List ℕ) (list : List ℤ) → reportRows s q list ≡ FormerAnswers.reportRows s q list
+      → machineOwes (model s) release duration a ≡ FormerMachine.machineOwes m release duration a
+  pub run : (q : List ℕ) (room : ℕ) → runAnswer s q room ≡ FormerAnswers.runAnswer form m q room
+  pub buffer : (q buffer : List ℕ) → runBuffer s q buffer ≡ FormerAnswers.runBuffer form m q buffer
+  pub report : (q : List ℕ) (lent : ℕ) → reportAnswer s q lent ≡ FormerAnswers.reportAnswer form m q lent
+  pub rows : (q : List ℕ) (list : List ℤ) → reportRows s q list ≡ FormerAnswers.reportRows form m q list
+  pub refusal : (r : List ℕ) → viewRefusal s r ≡ FormerAnswers.viewRefusal form m r
+  pub view : (r : List ℕ) (t : ℕ) → viewWord s r t ≡ FormerAnswers.viewWord form m r t
 
--- of every model of width 1 throughout, refused or not, and beside every second record
+-- of every older model, refused or not, and beside every second record: with its bytes read as they were, and the former form rules
+abbrev pub OlderModelsAnswerAsBefore : Type 0
+OlderModelsAnswerAsBefore = (s : List ℕ) → Older s → AnswersAsBefore s (FormerForm.modelForm s) (FormerForm.model s)
+
+-- And of every model of width 1 throughout, of version 3 too, which was not read before: with today's reading and form rules in front
+-- of what was answered.
 abbrev pub NoChange : Type 0
-NoChange = (s : List ℕ) → OfWidthOne (model s) → AnswersAsBefore s
+NoChange = (s : List ℕ) → OfWidthOne (model s) → AnswersAsBefore s (modelForm s) (model s)
 
 -- "counted in core ticks": an activity's ticks count as often as it takes cores, of every model and every plan
 abbrev pub InCoreTicks : Type 0
