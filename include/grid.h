@@ -17,8 +17,8 @@
 extern "C" {
 #endif
 
-/* number 0: accepted. first is the usage, second the cores times the horizon, third the makespan, and length the
- * number of bytes of the run's plan (0 for a check).
+/* number 0: accepted. first is the usage in core ticks, second the cores times the horizon, third the makespan, and length
+ * the number of bytes of the run's plan (0 for a check).
  * Otherwise number is the number of the refusal, first its A and second its B; third and length are 0. */
 typedef struct GridAnswer {
     uint32_t number;
@@ -28,9 +28,10 @@ typedef struct GridAnswer {
     uint32_t length;
 } GridAnswer;
 
-/* The plain check of a plan: refusals 1 to 7 and 51 to 53 of the model, 8 to 12 and 14 of the plan, and 21 to 29. No call
- * answers 24, a number that is out of use. A model may have several rounds; threads and activities in the second record
- * and in the answers then count in all rounds together. */
+/* The plain check of a plan: refusals 1 to 7, 51 to 53 and 57 of the model, 8 to 12 and 14 of the plan, and 21 to 29. No call
+ * answers 24, a number that is out of use. A model is of version 1, 2 or 3. One of version 2 or 3 may have several rounds;
+ * threads and activities in the second record and in the answers then count in all rounds together. In one of version 3 an
+ * activity may take several cores. */
 GridAnswer grid_check_plain(const uint8_t *model, size_t model_length,
                             const uint8_t *plan, size_t plan_length);
 
@@ -38,8 +39,9 @@ GridAnswer grid_check_plain(const uint8_t *model, size_t model_length,
 GridAnswer grid_check_strict(const uint8_t *model, size_t model_length,
                              const uint8_t *plan, size_t plan_length);
 
-/* The run of a choice: refusals 1 to 13, 51 to 53 and 41 change no byte of `out`, 42 and 43 set as many of its first bytes
- * to 0 as the plan would have taken, and a success writes the plan there. Bytes beyond the plan's length never change. */
+/* The run of a choice: refusals 1 to 13, 51 to 53, 57 and 41 change no byte of `out`, 42 and 43 set as many of its first
+ * bytes to 0 as the plan would have taken, and a success writes the plan there. Bytes beyond the plan's length never
+ * change. */
 GridAnswer grid_run(const uint8_t *model, size_t model_length,
                     const uint8_t *choice, size_t choice_length,
                     uint8_t *out, size_t out_length);
@@ -47,8 +49,8 @@ GridAnswer grid_run(const uint8_t *model, size_t model_length,
 /* The lateness of each activity in the run of a choice. The answer is that of grid_run with room enough, the plan's length
  * included, but 50 for fewer than 32 rows, however few activities there are; it is tried after the records and before 42 and
  * 43. A success and 43 set row a to the deadline of activity a, its thread's release + period, less its end, negative when
- * late and 0 on the dot, or to INT32_MIN where its thread has no period. Refusals 1 to 13, 51 to 53, 42 and 50 change no
- * row, and rows beyond the last activity never change. */
+ * late and 0 on the dot, or to INT32_MIN where its thread has no period. Refusals 1 to 13, 51 to 53, 57, 42 and 50 change
+ * no row, and rows beyond the last activity never change. */
 GridAnswer grid_lateness(const uint8_t *model, size_t model_length,
                          const uint8_t *choice, size_t choice_length,
                          int32_t *rows, size_t rows_length);

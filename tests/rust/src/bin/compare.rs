@@ -1,10 +1,10 @@
 //! Compares the exports with the reference over many pairs of records: a model and a plan by both checks, a model and a
 //! choice by the run and by the report of lateness, with the whole of what these two were lent; the report is then held
 //! against the exported run, and a page of version 2 or 3 against the record of its unrolled model, and against that of
-//! version 2 where version 3 has no width above 1. With each pair comes a pair or a file of wrapped models, of which the exports are asked which one stands; what they answer is then held
-//! against what 02 says of every file. It stops at the first difference, prints that case and exits with 1. It prints how
-//! often each call gave each answer, of all models and of those with a gang, and exits with 1 if one that the call can give
-//! came fewer than a hundred times.
+//! version 2 where version 3 has no width above 1. With each pair comes a pair or a file of wrapped models, of which the
+//! exports are asked which one stands; what they answer is then held against what 02 says of every file. It stops at the
+//! first difference, prints that case and exits with 1. It prints how often each call gave each answer, of all models and of
+//! those with a gang, and exits with 1 if one that the call can give came fewer than a hundred times.
 //!
 //! `compare [CASES]` tries cases 0 to CASES - 1, `compare FIRST..END` those from FIRST to END - 1, of which no number of
 //! answers is asked.
