@@ -9,6 +9,7 @@ use crate::refused;
 use numbers::less;
 use records::Pass;
 use records::model::Activity;
+use records::model::owner;
 use schedule::ActivityRule;
 use schedule::RuleRefusal;
 use ticks::on_time;
@@ -68,7 +69,7 @@ fn deadline_holds(s: &[u8], r: &[u8], a: Activity) -> bool
     ensures { λ x. ⌜ x
         ≡ inTime (model (now (s .entry))) (planTiming (plan (now (r .entry)))) (plan (now (r .entry)) .end) (a .0) ⌝ }
 {
-    let row = records::plan::thread_row(r, records::model::owner(s, a));
+    let row = records::plan::thread_row(r, owner(s, a));
     let span = records::plan::activity_row(r, a);
     on_time(row.release as u32, row.period as u32, span.end as u32)
 }

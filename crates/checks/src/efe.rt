@@ -3,6 +3,7 @@ use crate::page::at;
 use numbers::larger;
 use numbers::less;
 use records::model::Activity;
+use records::model::owner;
 use ticks::let_go;
 ghost use mathlib.Core.Path.{_≡_};
 ghost use Prim.Native.Nat.{ℕ, _≤_, _<_, max};
@@ -47,7 +48,7 @@ fn earliest(s: &[u8], r: &[u8], n: u8, a: Activity, delays: &[u32; 32], done: &[
     ensures { λ x. ⌜ x ≡ max (plan (now (r .entry)) .release (model (now (s .entry)) .thread (a .0)))
         (after (model (now (s .entry))) n (λ b. getD (now (done .entry)) b 0) (a .0)) ⌝ }
 {
-    let row = records::plan::thread_row(r, records::model::owner(s, a));
+    let row = records::plan::thread_row(r, owner(s, a));
     let release = row.release as u32;
     larger(release, after(s, n, a, delays, done))
 }

@@ -5,3 +5,4 @@ pub mod UrgentClaims
 pub mod UrgentCases
 pub mod MorePages
 pub mod GangsAsBefore
+pub mod GangRules

@@ -1,7 +1,7 @@
 -- Activities that take several cores (U7 of 02), on literal bytes: the run's words and verdict on models of version 3, and both
 -- verdicts on plans, where a nearly right walk, duration or usage would answer otherwise; and 57. Pages for rules 28 to 31 are
--- in GangRules. One table with one truth about it; every width of S is 1, so that its cases say nothing of this. The expected
--- values do not come from these definitions.
+-- in crate counterexamples, GangRules. One table with one truth about it; every width of S is 1, so that its cases say nothing
+-- of this. The expected values do not come from these definitions.
 -- Assumes nothing.
 use Prim.Native.Nat.{ℕ, _*_}
 use mathlib.Core.List.{List, [], _∷_, _++_}

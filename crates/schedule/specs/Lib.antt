@@ -29,5 +29,4 @@ pub mod Listing
 pub mod Pages
 pub mod PageForms
 pub mod Gangs
-pub mod GangRules
 pub mod Wrapped

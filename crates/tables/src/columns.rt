@@ -1,6 +1,7 @@
 // Columns of the records by activity.
 use crate::ByActivity;
 use records::model::Activity;
+use records::model::owner;
 ghost use mathlib.Core.Path.{_≡_};
 ghost use Prim.Native.Nat.{min};
 ghost use Rattle.schedule.specs.Model.{model};
@@ -57,15 +58,9 @@ fn entry(which: Column, s: &[u8], second: &[u8], a: Activity) -> u32
         Column::Temporal => among(s, records::model::activity_row(s, a).temporal_mask),
         Column::ByData => among(s, records::model::activity_row(s, a).data_mask),
         Column::Width => records::model::width(s, a) as u32,
-        Column::Priority => wide(
-            records::model::thread_row(s, records::model::owner(s, a)).priority,
-        ),
-        Column::ChosenRelease => wide(
-            records::choice::thread_row(second, records::model::owner(s, a)).release,
-        ),
-        Column::ChosenPeriod => wide(
-            records::choice::thread_row(second, records::model::owner(s, a)).period,
-        ),
+        Column::Priority => wide(records::model::thread_row(s, owner(s, a)).priority),
+        Column::ChosenRelease => wide(records::choice::thread_row(second, owner(s, a)).release),
+        Column::ChosenPeriod => wide(records::choice::thread_row(second, owner(s, a)).period),
         Column::ChosenDuration => wide(records::choice::duration(second, a)),
         Column::PlanStart => wide(records::plan::activity_row(second, a).start),
         Column::PlanEnd => wide(records::plan::activity_row(second, a).end),
