@@ -4,6 +4,7 @@ pub mod RowFields
 pub mod RowTests
 pub mod UnrolledRows
 pub mod RowOrder
+pub mod Settled
 pub mod Orders
 pub mod Forms
 pub mod Injective

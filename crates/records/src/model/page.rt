@@ -7,7 +7,9 @@ use crate::model::Sizes;
 use crate::model::Thread;
 use crate::model::ThreadRow;
 ghost use mathlib.Core.Path.{_≡_};
+ghost use mathlib.Core.Bool.{_||_, not};
 ghost use Prim.Native.Nat.{_+_, _≤_};
+ghost use lib.Dec.{eqb};
 ghost use lib.ListN.{length};
 ghost use Rattle.schedule.specs.Fields.{field};
 ghost use Rattle.schedule.specs.Model.{page, modelLength, threadRow, activityRow};
@@ -43,6 +45,21 @@ pub(crate) fn activities(s: &[u8]) -> u8
     ensures { λ r. ⌜ r ≡ page (now (s .entry)) .plain .activities ⌝ }
 {
     fields::byte(s, 7)
+}
+
+// Whether activity rows have a loop byte: "Version 1 is one round without loops".
+pub(crate) fn has_loops(s: &[u8]) -> bool
+    ensures { λ r. ⌜ r ≡ not (eqb (field (now (s .entry)) 4 1) 1) ⌝ }
+{
+    version(s) != 1
+}
+
+// Whether they have a width: "older models have width 1".
+pub(crate) fn has_widths(s: &[u8]) -> bool
+    ensures { λ r. ⌜ r ≡ not (eqb (field (now (s .entry)) 4 1) 1 || eqb (field (now (s .entry)) 4 1) 2) ⌝ }
+{
+    let version = version(s);
+    version != 1 && version != 2
 }
 
 // How many rounds there are: "Version 1 is one round".
@@ -184,23 +201,20 @@ pub(crate) fn owner(s: &[u8], a: u8) -> u8
 pub(crate) fn loop_byte(s: &[u8], a: u8) -> u8
     ensures { λ r. ⌜ r ≡ page (now (s .entry)) .loop a ⌝ }
 {
-    if version(s) == 1 {
-        unroll::NO_LOOP
-    } else {
+    if has_loops(s) {
         fields::byte(s, activity_place(s, a) + 15)
+    } else {
+        unroll::NO_LOOP
     }
 }
 
-// Its width: "older models have width 1".
+// Its width.
 pub(crate) fn width(s: &[u8], a: u8) -> u8
     ensures { λ r. ⌜ r ≡ page (now (s .entry)) .plain .width a ⌝ }
 {
-    let version = version(s);
-    if version == 1 {
-        1
-    } else if version == 2 {
-        1
-    } else {
+    if has_widths(s) {
         fields::byte(s, activity_place(s, a) + 16)
+    } else {
+        1
     }
 }

@@ -13,6 +13,8 @@ use crate::rows::RowRead;
 use schedule::FormRefusal;
 use schedule::RowRule;
 ghost use mathlib.Core.Path.{_≡_};
+ghost use mathlib.Core.Bool.{true};
+ghost use mathlib.Core.Option.{none};
 ghost use Rattle.schedule.specs.Rule.{break, firstBreak};
 ghost use Rattle.schedule.specs.Records.{within};
 ghost use Rattle.schedule.specs.Model.{page, headRules, rowRule, rowRules};
@@ -210,10 +212,31 @@ fn read_row(rule: RowRule, s: &[u8], number: u8) -> RowRead
     }
 }
 
+// Where no row can break a rule, whatever stands in the rows: 52 in one round, 53 "without loops", and 57 where every width is 1
+// and there is a core.
+fn settled(rule: RowRule, s: &[u8]) -> bool
+    ensures { λ r. ⌜ (r ≡ true → break (rowRule rule (page (now (s .entry)))) ≡ none) ⌝ }
+{
+    match rule {
+        RowRule::Thread => false,
+        RowRule::Period => page::rounds(s) <= 1,
+        RowRule::Activity => false,
+        RowRule::Loop => !page::has_loops(s),
+        RowRule::Width => {
+            let one = page::counts(s);
+            !page::has_widths(s) && 1 <= one.cores
+        }
+        RowRule::Masks => false,
+    }
+}
+
 // A rule tried at every row: "lowest A first".
 fn over_rows(rule: RowRule, s: &[u8]) -> Pass
     ensures { λ r. ⌜ passNumbers r ≡ break (rowRule rule (page (now (s .entry)))) ⌝ }
 {
+    if settled(rule, s) {
+        return Pass::Holds;
+    }
     let rows = rows_of(rule, s);
     let mut number: u8 = 0;
     while number < rows {

@@ -1,13 +1,17 @@
--- `model::page::loop_byte` meets its contract, version by version.
+-- `model::page::loop_byte` meets its contract, with a loop byte and without.
 -- Assumes nothing.
-use borrow.Author.Tests.{eq-eqb, ne-eqb}
-use Rattle.schedule.specs.Model.{page}
+use mathlib.Core.Bool.{true, false}
+use mathlib.Core.Path.{_≡_, sym, _∙_}
+use lib.Dec.{eqb}
+use borrow.Author.Tests.{not-false, not-true}
 use borrow.Author.Needs.{needs}
+use Rattle.schedule.specs.Fields.{field}
+use Rattle.schedule.specs.Model.{page}
 use Rattle.records.proofs.model.page.loop_byte.Statement.{statement}
 use Rattle.records.proofs.model.page.loop_byte.Tie as tie
 
-version-requires : tie.Need-version-requires
-version-requires c κs = search needs
+has-loops-requires : tie.Need-has-loops-requires
+has-loops-requires c κs = search needs
 
 activity-place-requires : tie.Need-activity-place-requires
 activity-place-requires c κs = search needs
@@ -20,18 +24,19 @@ byte-requires c κs = search needs
 
 returns : tie.Need-returns
 unfolding page
-returns c = rw (← c .before .version .ensures, eq-eqb _ _ (c .if1 .taken))
+returns c =
+    let c3 = c .before .before .before in
+    let later : eqb (field (c3 .before .before .args .s .now) 4 1) 1 ≡ false =
+    not-true _ (sym (c3 .has-loops .ensures) ∙ c .before .before .if1 .taken) in
+    rw (← c .before .activity-place .ensures .0, later) (c .byte .ensures)
 
 returns-2 : tie.Need-returns-2
 unfolding page
 returns-2 c =
-    rw (
-      ← c .before .activity-place .ensures .0,
-      ← c .before .before .before .version .ensures,
-      ne-eqb _ _ (c .before .before .if1 .left),
-    ) (c .byte .ensures)
+    let first : eqb (field (c .before .before .before .args .s .now) 4 1) 1 ≡ true =
+    not-false _ (sym (c .before .has-loops .ensures) ∙ c .if1 .left) in
+    rw (first)
 
 pub loop-byte-spec : {M : Type 1} → statement M
 loop-byte-spec =
-    tie.close
-    (tie.spec version-requires activity-place-requires add-byte byte-requires returns returns-2)
+    tie.close (tie.spec has-loops-requires activity-place-requires add-byte byte-requires returns returns-2)

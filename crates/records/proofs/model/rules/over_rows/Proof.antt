@@ -18,6 +18,12 @@ Inv-loop rule s rows number₀ number = (number ≤ rows) × ClearTo (rowRule ru
 abbrev μ-loop : tie.MeasureT-loop
 μ-loop rule s rows number₀ number = rows - number
 
+settled-requires : tie.Need-settled-requires Inv-loop μ-loop
+settled-requires c κs = search needs
+
+returns : tie.Need-returns Inv-loop μ-loop
+returns c = sym (c .before .settled .ensures (c .if1 .taken))
+
 rows-of-requires : tie.Need-rows-of-requires Inv-loop μ-loop
 rows-of-requires c κs = search needs
 
@@ -36,11 +42,11 @@ enum-told-2 c = search needs
 pass-requires : tie.Need-pass-requires Inv-loop μ-loop
 pass-requires c κs = search needs
 
-returns : tie.Need-returns Inv-loop μ-loop
-returns c =
+returns-2 : tie.Need-returns-2 Inv-loop μ-loop
+returns-2 c =
     let c3 = c .before .before .before in
     let c5 = c3 .before .before in
-    let x = c5 .before .before .before .args in
+    let x = c5 .before .before .before .before .before .args in
     row-refused _ _ _ _ (row-columns (x .rule) (page (x .s .now))) (c5 .loop .inv .1)
     (c3 .read-row .ensures) _ _ (omega (arith, c5 .before .rows-of .ensures))
     (c .before .enum-told2 .given .1) (c .pass .ensures)
@@ -54,14 +60,14 @@ loop-less c = omega arith
 loop-again : tie.Need-loop-again Inv-loop μ-loop
 loop-again c =
     let c4 = c .before .before .before .before in
-    let x = c4 .before .before .before .args in (
+    let x = c4 .before .before .before .before .before .args in (
       omega arith,
       row-taken _ _ _ _ (row-columns (x .rule) (page (x .s .now))) (c4 .loop .inv .1)
           (c .before .before .read-row .ensures) _ (c .enum-told .given .1),
     )
 
-returns-2 : tie.Need-returns-2 Inv-loop μ-loop
-returns-2 c = sym (rows-end _ _ (omega (arith, c .before .before .rows-of .ensures)) (c .before .loop .inv .1))
+returns-3 : tie.Need-returns-3 Inv-loop μ-loop
+returns-3 c = sym (rows-end _ _ (omega (arith, c .before .before .rows-of .ensures)) (c .before .loop .inv .1))
 
 pub over-rows-spec : {M : Type 1} → statement M
 over-rows-spec =
@@ -69,14 +75,16 @@ over-rows-spec =
     (tie.spec
     Inv-loop
     μ-loop
+    settled-requires
+    returns
     rows-of-requires
     loop-holds
     read-row-requires
     enum-told
     enum-told-2
     pass-requires
-    returns
+    returns-2
     add-number
     loop-less
     loop-again
-    returns-2)
+    returns-3)
