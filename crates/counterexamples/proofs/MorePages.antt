@@ -1,12 +1,15 @@
--- Pages of three and four rounds (U4 of 02), on literal bytes, as crate schedule's Pages has those of two: the version 1 record of
--- each unrolled model, and the run's words and verdict on the page and on that record. The expected values are worked out by
--- hand. They stand here because every edit of a definition would compute them again.
+-- Pages of several rounds (U4 of 02), on literal bytes: the run's words and verdict on each page and on the version 1 record of
+-- its unrolled model. The pages of two rounds and their records are crate schedule's Pages; those of three and four are here, with
+-- the record that each unrolls to. The expected values are worked out by hand. They stand here because every edit of a
+-- definition would compute them again.
 -- Assumes nothing.
 use Prim.Native.Nat.{ℕ}
 use mathlib.Core.List.{List, [], _∷_, _++_}
 use mathlib.Core.Path.{refl}
-use Rattle.schedule.specs.Cases.{every, accepts, refuses, Case, Right}
-use Rattle.schedule.specs.Pages.{paged}
+use Rattle.schedule.specs.Answers.{Answer, Figures}
+use Rattle.schedule.specs.Cases.{every, patch, accepts, refuses, Case, Right, unrolls, run, words, verdict, numbers}
+use Rattle.schedule.specs.Pages.{itself, itself-unrolled, itself-choice, earlier, earlier-unrolled, earlier-choice}
+use Rattle.schedule.specs.Pages.{later, later-unrolled, later-choice, moved-masks, moved-masks-unrolled, moved-masks-choice}
 
 -- i 3. Activity 0 loops to itself, with delay 1: round 2 waits for round 1 and not for round 0.
 abbrev thrice : List ℕ
@@ -149,9 +152,41 @@ owed-choice =
     ++ (0 ∷ 0 ∷ 0 ∷ 0 ∷ 0 ∷ 0 ∷ 0 ∷ 0 ∷ 0 ∷ 3 ∷ 0 ∷ 0 ∷ [])
     ++ (0 ∷ 1 ∷ 0 ∷ 1 ∷ 0 ∷ 1 ∷ 0 ∷ 1 ∷ 0 ∷ 1 ∷ 0 ∷ 1 ∷ [])
 
+-- ---- the table
+
+-- the run's verdict, the same on a page and on its unrolled record
+abbrev chosen : List ℕ → List ℕ → List ℕ → Answer Figures → List Case
+chosen page plain choice said =
+    record { asked = run page choice; expected = verdict said } ∷ record { asked = run plain choice; expected = verdict said } ∷ []
+
+-- and the run's words
+abbrev ran : List ℕ → List ℕ → List ℕ → List ℕ → Answer Figures → List Case
+ran page plain choice ticks said =
+    record { asked = words page choice; expected = numbers ticks }
+    ∷ record { asked = words plain choice; expected = numbers ticks }
+    ∷ chosen page plain choice said
+
+-- and that it is the page's unrolled record
+abbrev paged : List ℕ → List ℕ → List ℕ → List ℕ → Answer Figures → List Case
+paged page plain choice ticks said = record { asked = unrolls page; expected = numbers plain } ∷ ran page plain choice ticks said
+
 abbrev cases : List Case
 cases =
-    paged thrice thrice-unrolled thrice-choice (1 ∷ 1 ∷ 1 ∷ 0 ∷ 0 ∷ 2 ∷ 2 ∷ 2 ∷ 0 ∷ 4 ∷ 4 ∷ 0 ∷ [])
+    ran itself itself-unrolled itself-choice (1 ∷ 1 ∷ 0 ∷ 0 ∷ 2 ∷ 2 ∷ 0 ∷ 0 ∷ [])
+    (accepts 4 8 6)
+    ++ ran earlier earlier-unrolled earlier-choice (2 ∷ 1 ∷ 1 ∷ 4 ∷ 4 ∷ 0 ∷ 8 ∷ 8 ∷ 0 ∷ 0 ∷ [])
+    (accepts 7 10 8)
+    ++ ran later later-unrolled later-choice (1 ∷ 2 ∷ 2 ∷ 2 ∷ 8 ∷ 8 ∷ 0 ∷ 4 ∷ 0 ∷ 0 ∷ 0 ∷ 0 ∷ [])
+    (accepts 7 12 8)
+    ++ ran moved-masks moved-masks-unrolled moved-masks-choice (1 ∷ 1 ∷ 0 ∷ 2 ∷ 4 ∷ 8 ∷ 8 ∷ 0 ∷ 16 ∷ 32 ∷ 32 ∷ 0 ∷ [])
+    (accepts 9 24 11)
+    -- "a round's release may lie anywhere in its own range": 3..4 for round 1, and 0..1 again where there is no period
+    ++ chosen itself itself-unrolled (patch 11 (0 ∷ 4 ∷ []) itself-choice) (accepts 4 8 6)
+    ++ chosen itself itself-unrolled (patch 11 (0 ∷ 2 ∷ []) itself-choice) (refuses 12 1 0)
+    ++ chosen itself itself-unrolled (patch 11 (0 ∷ 5 ∷ []) itself-choice) (refuses 12 1 0)
+    ++ chosen earlier earlier-unrolled (patch 15 (0 ∷ 1 ∷ []) earlier-choice) (accepts 7 10 8)
+    ++ chosen earlier earlier-unrolled (patch 15 (0 ∷ 2 ∷ []) earlier-choice) (refuses 12 2 0)
+    ++ paged thrice thrice-unrolled thrice-choice (1 ∷ 1 ∷ 1 ∷ 0 ∷ 0 ∷ 2 ∷ 2 ∷ 2 ∷ 0 ∷ 4 ∷ 4 ∷ 0 ∷ [])
     (accepts 8 12 11)
     ++ paged crossed crossed-unrolled crossed-choice (1 ∷ 1 ∷ 2 ∷ 0 ∷ 0 ∷ 12 ∷ 0 ∷ 0 ∷ 16 ∷ 32 ∷ 0 ∷ 0 ∷ [])
     (accepts 7 24 10)

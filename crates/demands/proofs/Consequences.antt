@@ -41,8 +41,6 @@ use Rattle.laws.proofs.Formed.{model-says}
 use Rattle.laws.proofs.FirstBreak.{none-iff, sound-append, hold-append, hold-or-broken}
 use Rattle.laws.proofs.Sound.{modelForm-sound, planForm-sound, strictRules-sound}
 use Rattle.laws.proofs.Sums.{greatest-each, least-each}
-use Rattle.view.specs.Grid.{viewBytes, gridWord}
-use Rattle.view.proofs.HeldLaws.{grid-gives}
 use Rattle.demands.specs.Efe.{Largest}
 use Rattle.demands.specs.Strict.{HasChoices, planWritten}
 use Rattle.demands.proofs.Demand2.{plain-accepted, plain-keeps, strict-breaks-rule, strict-passes-rules}
@@ -147,10 +145,6 @@ below-same t h {x} {y} e = by (ltb t h) (λ b. e (ltb→lt t h b))
     by : (b : Bool) → (T b → x ≡ y) → cond b x past ≡ cond b y past
     by true f = f tt
     by false f = refl
-
--- the word that is read from the bytes of a view made over two records is the one that the paper's view gives
-pub view-made : (s r : List ℕ) (t : ℕ) → gridWord (viewBytes s r) t ≡ viewWord s r t
-view-made s r t = grid-gives s r t
 
 -- two records of right form are not refused
 view-whole : (s r : List ℕ) → MeetsForm s → WellFormed s r → viewRefusal s r ≡ none
