@@ -197,10 +197,27 @@ pub fn is_dash(figure: i32) -> bool
     figure == -2147483648
 }
 
-// A digit, 0 to 9 or a to f.
+// A hexadecimal digit, in the order and with the numbers of the ASCII chart (U5 of 02). Of a number above 15 the last digit is
+// made, so the last line takes 15 and nothing else.
 pub fn hex_digit(d: u8) -> u8
     ensures { λ r. ⌜ r ≡ hexDigit (d % 16) ⌝ }
 {
-    let x = d % 16;
-    if x < 10 { 48 + x } else { 87 + x }
+    match d % 16 {
+        0 => 48, // 0
+        1 => 49, // 1
+        2 => 50, // 2
+        3 => 51, // 3
+        4 => 52, // 4
+        5 => 53, // 5
+        6 => 54, // 6
+        7 => 55, // 7
+        8 => 56, // 8
+        9 => 57, // 9
+        10 => 97, // a
+        11 => 98, // b
+        12 => 99, // c
+        13 => 100, // d
+        14 => 101, // e
+        _ => 102, // f
+    }
 }

@@ -34,7 +34,10 @@ two-lines =
 abbrev one-line : List ℕ
 one-line = 114 ∷ 117 ∷ 110 ∷ 32 ∷ 114 ∷ 101 ∷ 102 ∷ 117 ∷ 115 ∷ 101 ∷ 100 ∷ 32 ∷ 56 ∷ 32 ∷ 48 ∷ 32 ∷ 48 ∷ 10 ∷ []
 
--- the line of tick 4095 with the word fedcba98
+-- the line of tick 0 with the word 01234567, and of tick 4095 with fedcba98: every hexadecimal digit (U5 of 02)
+abbrev digits-line : List ℕ
+digits-line = 48 ∷ 32 ∷ 48 ∷ 49 ∷ 50 ∷ 51 ∷ 52 ∷ 53 ∷ 54 ∷ 55 ∷ 10 ∷ []
+
 abbrev long-line : List ℕ
 long-line = 52 ∷ 48 ∷ 57 ∷ 53 ∷ 32 ∷ 102 ∷ 101 ∷ 100 ∷ 99 ∷ 98 ∷ 97 ∷ 57 ∷ 56 ∷ 10 ∷ []
 
@@ -67,6 +70,7 @@ pub printed-lines :
     (gridrun (modelS ++ choiceS)
     ∷ gridcheck (modelS ++ activity2-at-6 planS)
     ∷ gridrun modelS
+    ∷ tickLine 0 0x01234567
     ∷ tickLine 4095 0xfedcba98
     ∷ gridlate (modelS ++ choiceS)
     ∷ gridlate (wider-period ++ chosen-period 5)
@@ -74,6 +78,6 @@ pub printed-lines :
     ∷ gridlate modelS
     ∷ lateLine 31 (negsuc 2147483646)
     ∷ [])
-    (listing ∷ two-lines ∷ one-line ∷ long-line ∷ in-time ∷ one-late ∷ unfinished ∷ one-line ∷ least-line ∷ [])
+    (listing ∷ two-lines ∷ one-line ∷ digits-line ∷ long-line ∷ in-time ∷ one-late ∷ unfinished ∷ one-line ∷ least-line ∷ [])
 unfolding every
 printed-lines = refl
