@@ -197,8 +197,8 @@ pub fn is_dash(figure: i32) -> bool
     figure == -2147483648
 }
 
-// A hexadecimal digit, in the order and with the numbers of the ASCII chart (U5 of 02). Of a number above 15 the last digit is
-// made, so the last line takes 15 and nothing else.
+// A hexadecimal digit, in the order and with the numbers of the ASCII chart (U5 of 02). A number above 15 gets the digit of its
+// remainder by 16, so the last line takes 15 and nothing else.
 pub fn hex_digit(d: u8) -> u8
     ensures { λ r. ⌜ r ≡ hexDigit (d % 16) ⌝ }
 {

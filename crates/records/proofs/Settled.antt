@@ -1,17 +1,17 @@
--- Rules of rows that no row can break, by what the version or the rounds of a page say.
+-- Rules of rows that no row can break, by the version, the rounds or the cores of a page.
 -- Assumes nothing.
 use Prim.Native.Nat.{ℕ}
 use native.Mathlib.Omega.{arith}
-use mathlib.Core.Bool.{Bool, true, false, not, _||_}
+use mathlib.Core.Bool.{Bool, true, false, not}
 use mathlib.Core.List.{List}
 use mathlib.Core.Option.{none}
 use mathlib.Core.Path.{_≡_, sym, subst, ap, _∙_}
-use lib.Dec.{T, eqb, leb, ltb}
+use lib.Dec.{T, leb, ltb}
 use borrow.Author.Tests.{leb-true, le-ltb, not-false, not-true}
-use Rattle.schedule.specs.Fields.{field}
 use Rattle.schedule.specs.Rule.{Rule, break}
 use Rattle.schedule.specs.Model.{Page, page, periodRule, loopRule, widthRule}
 use Rattle.laws.proofs.RowLaws.{ClearTo, clear-end, row-clear}
+use Rattle.records.specs.Rows.{oldest, older}
 
 -- a rule whose test passes everywhere has no break
 unbroken : (r : Rule) → ((a b : ℕ) → T (r .test a b)) → break r ≡ none
@@ -26,16 +26,12 @@ period-settled p rounds e most =
     unbroken (periodRule p) (λ a b. rw (one) tt)
 
 -- 53, where there are no loop bytes
-pub loop-settled : (s : List ℕ) (loops : Bool) → loops ≡ not (eqb (field s 4 1) 1) → not loops ≡ true
+pub loop-settled : (s : List ℕ) (loops : Bool) → loops ≡ not (oldest s) → not loops ≡ true
     → break (loopRule (page s)) ≡ none
 unfolding loopRule page
 loop-settled s loops e none-there =
-    let first : eqb (field s 4 1) 1 ≡ true = not-false _ (sym e ∙ not-true loops none-there) in
-    unbroken (loopRule (page s)) (λ a b. rw (first) tt)
-
--- version 1 or 2, which have no widths
-abbrev pub older : List ℕ → Bool
-older s = eqb (field s 4 1) 1 || eqb (field s 4 1) 2
+    let is-oldest : oldest s ≡ true = not-false _ (sym e ∙ not-true loops none-there) in
+    unbroken (loopRule (page s)) (λ a b. rw (is-oldest) tt)
 
 -- 57, where there are no widths and at least one core
 pub width-settled : (s : List ℕ) (widths : Bool) (cores : ℕ) → widths ≡ not (older s)

@@ -1,7 +1,7 @@
 -- The rows of the three records as the readers hand them out.
 -- Assumes nothing.
 use Prim.Native.Nat.{ℕ, _+_, _-_, _*_}
-use mathlib.Core.Bool.{Bool, _&&_, not}
+use mathlib.Core.Bool.{Bool, _&&_, _||_, not}
 use mathlib.Core.List.{List}
 use lib.Dec.{eqb, leb, ltb}
 use Rattle.schedule.specs.Bounded.{all, bit, _⇒_}
@@ -18,6 +18,13 @@ use Rattle.records.specs.declared.model.ActivityRow.{ActivityRow}
 use Rattle.records.specs.declared.plan.PlanSizes.{PlanSizes}
 use Rattle.records.specs.declared.plan.Timing.{Timing}
 use Rattle.records.specs.declared.plan.Span.{Span}
+
+-- version 1, whose rows have no loop byte, and versions 1 and 2, whose rows have no width
+abbrev pub oldest : List ℕ → Bool
+oldest s = eqb (field s 4 1) 1
+
+abbrev pub older : List ℕ → Bool
+older s = oldest s || eqb (field s 4 1) 2
 
 -- the counts of a model
 unfoldable pub sizesOf : Model → Sizes

@@ -7,13 +7,12 @@ use crate::model::Sizes;
 use crate::model::Thread;
 use crate::model::ThreadRow;
 ghost use mathlib.Core.Path.{_≡_};
-ghost use mathlib.Core.Bool.{_||_, not};
+ghost use mathlib.Core.Bool.{not};
 ghost use Prim.Native.Nat.{_+_, _≤_};
-ghost use lib.Dec.{eqb};
 ghost use lib.ListN.{length};
 ghost use Rattle.schedule.specs.Fields.{field};
 ghost use Rattle.schedule.specs.Model.{page, modelLength, threadRow, activityRow};
-ghost use Rattle.records.specs.Rows.{sizesOf, threadRowOf, threadFields, activityRowOf, activityFields};
+ghost use Rattle.records.specs.Rows.{oldest, older, sizesOf, threadRowOf, threadFields, activityRowOf, activityFields};
 
 // The version byte.
 fn version(s: &[u8]) -> u8
@@ -49,14 +48,14 @@ pub(crate) fn activities(s: &[u8]) -> u8
 
 // Whether activity rows have a loop byte: "Version 1 is one round without loops".
 pub(crate) fn has_loops(s: &[u8]) -> bool
-    ensures { λ r. ⌜ r ≡ not (eqb (field (now (s .entry)) 4 1) 1) ⌝ }
+    ensures { λ r. ⌜ r ≡ not (oldest (now (s .entry))) ⌝ }
 {
     version(s) != 1
 }
 
 // Whether they have a width: "older models have width 1".
 pub(crate) fn has_widths(s: &[u8]) -> bool
-    ensures { λ r. ⌜ r ≡ not (eqb (field (now (s .entry)) 4 1) 1 || eqb (field (now (s .entry)) 4 1) 2) ⌝ }
+    ensures { λ r. ⌜ r ≡ not (older (now (s .entry))) ⌝ }
 {
     let version = version(s);
     version != 1 && version != 2
@@ -208,7 +207,7 @@ pub(crate) fn loop_byte(s: &[u8], a: u8) -> u8
     }
 }
 
-// Its width.
+// Its width, 1 where rows have none.
 pub(crate) fn width(s: &[u8], a: u8) -> u8
     ensures { λ r. ⌜ r ≡ page (now (s .entry)) .plain .width a ⌝ }
 {

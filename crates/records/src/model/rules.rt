@@ -212,8 +212,8 @@ fn read_row(rule: RowRule, s: &[u8], number: u8) -> RowRead
     }
 }
 
-// Where no row can break a rule, whatever stands in the rows: 52 in one round, 53 "without loops", and 57 where every width is 1
-// and there is a core.
+// Whether it is known that no row can break a rule: 52 in one round, 53 "without loops", and 57 where rows have no width and
+// there is a core. A no promises nothing, and the rows are tried.
 fn settled(rule: RowRule, s: &[u8]) -> bool
     ensures { λ r. ⌜ (r ≡ true → break (rowRule rule (page (now (s .entry)))) ≡ none) ⌝ }
 {
@@ -230,7 +230,7 @@ fn settled(rule: RowRule, s: &[u8]) -> bool
     }
 }
 
-// A rule tried at every row: "lowest A first".
+// A rule tried at every row, "lowest A first", unless none can break it.
 fn over_rows(rule: RowRule, s: &[u8]) -> Pass
     ensures { λ r. ⌜ passNumbers r ≡ break (rowRule rule (page (now (s .entry)))) ⌝ }
 {

@@ -2,11 +2,10 @@
 -- Assumes nothing.
 use mathlib.Core.Bool.{true, false}
 use mathlib.Core.Path.{_≡_, sym, _∙_}
-use lib.Dec.{eqb}
 use borrow.Author.Tests.{not-false, not-true}
 use borrow.Author.Needs.{needs}
-use Rattle.schedule.specs.Fields.{field}
 use Rattle.schedule.specs.Model.{page}
+use Rattle.records.specs.Rows.{oldest}
 use Rattle.records.proofs.model.page.loop_byte.Statement.{statement}
 use Rattle.records.proofs.model.page.loop_byte.Tie as tie
 
@@ -26,16 +25,16 @@ returns : tie.Need-returns
 unfolding page
 returns c =
     let c3 = c .before .before .before in
-    let later : eqb (field (c3 .before .before .args .s .now) 4 1) 1 ≡ false =
+    let newer : oldest (c3 .before .before .args .s .now) ≡ false =
     not-true _ (sym (c3 .has-loops .ensures) ∙ c .before .before .if1 .taken) in
-    rw (← c .before .activity-place .ensures .0, later) (c .byte .ensures)
+    rw (← c .before .activity-place .ensures .0, newer) (c .byte .ensures)
 
 returns-2 : tie.Need-returns-2
 unfolding page
 returns-2 c =
-    let first : eqb (field (c .before .before .before .args .s .now) 4 1) 1 ≡ true =
+    let is-oldest : oldest (c .before .before .before .args .s .now) ≡ true =
     not-false _ (sym (c .before .has-loops .ensures) ∙ c .if1 .left) in
-    rw (first)
+    rw (is-oldest)
 
 pub loop-byte-spec : {M : Type 1} → statement M
 loop-byte-spec =

@@ -5,7 +5,7 @@ use mathlib.Core.Path.{_≡_, sym, _∙_}
 use borrow.Author.Tests.{not-false, not-true}
 use borrow.Author.Needs.{needs}
 use Rattle.schedule.specs.Model.{page}
-use Rattle.records.proofs.Settled.{older}
+use Rattle.records.specs.Rows.{older}
 use Rattle.records.proofs.model.page.width.Statement.{statement}
 use Rattle.records.proofs.model.page.width.Tie as tie
 
