@@ -10,6 +10,7 @@ use mathlib.Core.List.{List, [], _∷_}
 use mathlib.Core.Option.{Option, some, none}
 use mathlib.Core.Path.{_≡_, refl, sym, subst, ap, ap₂, _∙_}
 use borrow.Author.Tests.{leb-true}
+use denote.Ref.{RefT, now}
 use lib.Dec.{leb}
 use lib.ListN.{length, take, drop, length-drop}
 use lib.Seq.{length-take-le, drop-cons}
@@ -17,9 +18,10 @@ use Rattle.schedule.specs.Rule.{Refusal, firstBreak}
 use Rattle.schedule.specs.Answers.{Answer, accepted, refused, answer}
 use Rattle.schedule.specs.Exchange.{wrapperRule, recordRules, outranks, atRecord, along, standing, recordAt, bothOf}
 use Rattle.schedule.specs.Exchange.{handedBack, partOf, placed}
-use Rattle.schedule.specs.Exchange.{pairAnswer, pairBytes, recordEnd, recordsOf, offsetIn, fileAnswer}
-use Rattle.schedule.specs.Numbers.{wrapNumbers, partNumbers}
+use Rattle.schedule.specs.Exchange.{pairAnswer, pairBytes, HandsBack, recordEnd, recordsOf, offsetIn, fileAnswer}
+use Rattle.schedule.specs.Numbers.{wrapNumbers, standingNumbers, partNumbers}
 use Rattle.schedule.specs.declared.Part.{Part}
+use Rattle.schedule.specs.declared.Standing.{Standing}
 use Rattle.schedule.specs.declared.WrapRefusal.{WrapRefusal}
 use Rattle.laws.proofs.VerdictLaws.{accepted-is-not-refused}
 use Rattle.laws.proofs.WrappedLaws.{isRight, turned, onwards, standing-first}
@@ -81,13 +83,17 @@ pub pair-taken : (x y : List ℕ) (found : Compared) (above : Bool) → isRight 
 unfolding along
 pair-taken x y found above r h e = pair-right x y r ∙ along-taken 1 0 x y [] found above h e
 
-pub pair-part : (x y : List ℕ) (r : ℕ) → pairAnswer x y ≡ accepted r → pairBytes x y ≡ recordAt (bothOf x y) r
-unfolding pairAnswer pairBytes handedBack
-pair-part x y r e = ap (handedBack (bothOf x y)) e
-
-pub pair-nothing : (x y : List ℕ) (z : Refusal) → pairAnswer x y ≡ refused z → pairBytes x y ≡ []
-unfolding pairAnswer pairBytes handedBack
-pair-nothing x y z e = ap (handedBack (bothOf x y)) e
+-- the slice that an answer names holds the bytes that it hands back
+pub named-bytes : (found : Standing) (x y r : RefT (List ℕ)) → standingNumbers found ≡ pairAnswer (now x) (now y)
+    → HandsBack (standingNumbers found) x y r → now r ≡ pairBytes (now x) (now y)
+unfolding pairBytes handedBack
+named-bytes found x y r answered h =
+    by found h ∙ ap (handedBack (bothOf (now x) (now y))) answered
+  where
+    by : (f : Standing) → HandsBack (standingNumbers f) x y r → now r ≡ handedBack (bothOf (now x) (now y)) (standingNumbers f)
+    by Standing.First e = ap (λ (z : RefT (List ℕ)). now z) e
+    by Standing.Second e = ap (λ (z : RefT (List ℕ)). now z) e
+    by (Standing.Refused why k) e = e .0
 
 -- ---- along a file
 

@@ -13,7 +13,9 @@ ghost use lib.ListN.{length, take, drop};
 ghost use Rattle.schedule.specs.Rule.{firstBreak};
 ghost use Rattle.schedule.specs.Answers.{answer};
 ghost use Rattle.schedule.specs.Exchange.{series, issue, withdrawn, wrapped, unbroken, wrapperRule, seriesRule, same, copyRule};
-ghost use Rattle.schedule.specs.Exchange.{recordRules, outranks, pairAnswer, pairBytes, recordEnd, fileAnswer, fileBytes};
+ghost use Rattle.schedule.specs.Exchange.{recordRules, outranks, pairAnswer, pairBytes, HandsBack, recordEnd};
+ghost use Rattle.schedule.specs.Exchange.{fileAnswer, fileBytes, handedFrom};
+ghost use Rattle.schedule.specs.Lent.{LiesAt};
 ghost use Rattle.schedule.specs.Model.{modelForm};
 ghost use Rattle.schedule.specs.Numbers.{standingNumbers, chosenNumbers};
 ghost use Rattle.exchange.specs.Compares.{comparedNumbers};
@@ -170,16 +172,23 @@ pub fn which_stands(first: &[u8], second: &[u8]) -> Standing
     }
 }
 
-// "Hand back the one that stands as the caller's own bytes .. a refusal hands back an empty part".
-pub fn stands<'a>(first: &'a [u8], second: &'a [u8]) -> &'a [u8]
-    ensures { λ r. ⌜ now r ≡ pairBytes (now (first .entry)) (now (second .entry)) ⌝ }
+// The slice that an answer about a pair names, or an empty part.
+fn named<'a>(found: Standing, first: &'a [u8], second: &'a [u8]) -> &'a [u8]
+    ensures { λ r. ⌜ HandsBack (standingNumbers found) (first .entry) (second .entry) r ⌝ }
 {
-    let found = which_stands(first, second);
     match found {
         Standing::First => first,
         Standing::Second => second,
         Standing::Refused(_, _) => &first[0..0],
     }
+}
+
+// "Hand back the one that stands as the caller's own bytes, the first where both are equal; a refusal hands back an empty part".
+pub fn stands<'a>(first: &'a [u8], second: &'a [u8]) -> &'a [u8]
+    ensures { λ r. ⌜ (now r ≡ pairBytes (now (first .entry)) (now (second .entry)))
+        × HandsBack (pairAnswer (now (first .entry)) (now (second .entry))) (first .entry) (second .entry) r ⌝ }
+{
+    named(which_stands(first, second), first, second)
 }
 
 // ---- a file
@@ -215,7 +224,7 @@ fn record_at(file: &[u8], index: usize, offset: usize) -> Part
 // Its bytes.
 fn bytes_of(file: &[u8], x: Part) -> &[u8]
     requires { ⌜ x .offset + x .length ≤ length (now file) ⌝ }
-    ensures { λ r. ⌜ now r ≡ take (x .length) (drop (x .offset) (now (file .entry))) ⌝ }
+    ensures { λ r. ⌜ (now r ≡ take (x .length) (drop (x .offset) (now (file .entry)))) × LiesAt (file .entry) (x .offset) r ⌝ }
 {
     let from = x.offset;
     let to = from + x.length;
@@ -255,7 +264,8 @@ pub fn choose(file: &[u8]) -> Chosen
 
 // The chosen record as a part of the file, or an empty part.
 pub fn chosen(file: &[u8]) -> &[u8]
-    ensures { λ r. ⌜ now r ≡ fileBytes (now (file .entry)) ⌝ }
+    ensures { λ r. ⌜ (now r ≡ fileBytes (now (file .entry)))
+        × LiesAt (file .entry) (handedFrom (fileAnswer (now (file .entry)))) r ⌝ }
 {
     let found = choose(file);
     match found {

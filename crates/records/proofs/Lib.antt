@@ -7,5 +7,6 @@ pub mod RowOrder
 pub mod Settled
 pub mod Orders
 pub mod Forms
+pub mod GridPart
 pub mod Injective
 pub mod WriteLaws

@@ -16,9 +16,10 @@ ghost use mathlib.Core.Path.{_≡_};
 ghost use Prim.Native.Nat.{_+_, _≤_, _<_};
 ghost use lib.ListN.{length};
 ghost use Rattle.schedule.specs.Fields.{pair};
+ghost use Rattle.schedule.specs.Lent.{LiesAt};
 ghost use Rattle.schedule.specs.Rule.{break, firstBreak};
 ghost use Rattle.schedule.specs.Model.{model};
-ghost use Rattle.schedule.specs.Plan.{plan, planForm, planThreadRow, planActivityRow, gridAt, planGrid, planLength, wordIn, wordRule};
+ghost use Rattle.schedule.specs.Plan.{plan, planForm, planThreadRow, planActivityRow, gridAt, planGrid, planGridAt, planLength, wordIn, wordRule};
 ghost use Rattle.fields.specs.Put.{put};
 ghost use Rattle.records.specs.Rows.{planSizesOf, timing, spanOf, horizonHolds, noneFrom};
 ghost use Rattle.records.specs.Writes.{headBytes};
@@ -120,11 +121,12 @@ pub fn word(r: &[u8], t: u16) -> u32
 
 // The words of all ticks, of any bytes: the part behind the rows, to the end; empty where a plan does not reach so far.
 pub fn words(r: &[u8]) -> &[u8]
-    ensures { λ x. ⌜ now x ≡ planGrid (now (r .entry)) ⌝ }
+    ensures { λ x. ⌜ (now x ≡ planGrid (now (r .entry))) × LiesAt (r .entry) (planGridAt (now (r .entry))) x ⌝ }
 {
     let sizes = counts(r);
     let at = grid_at(sizes.threads, sizes.activities);
-    if at <= r.len() { &r[at..] } else { &r[0..0] }
+    let end = r.len();
+    if at <= end { &r[at..] } else { &r[end..] }
 }
 
 // ---- writing, each part whole or not at all

@@ -8,10 +8,12 @@ use mathlib.Core.Option.{Option, some, none}
 use mathlib.Core.Path.{_≡_}
 use lib.Dec.{eqb, leb, ltb}
 use lib.ListN.{length, getD, take, drop}
+use denote.Ref.{RefT, now}
 use Rattle.schedule.specs.Bounded.{total, _⇒_}
 use Rattle.schedule.specs.Fields.{field}
 use Rattle.schedule.specs.Rule.{Rule, Refusal, firstBreak, AllHold}
 use Rattle.schedule.specs.Records.{within, lengthRule, versionRule}
+use Rattle.schedule.specs.Lent.{LiesAt}
 use Rattle.schedule.specs.Model.{modelForm}
 use Rattle.schedule.specs.Answers.{Answer, accepted, refused}
 
@@ -163,6 +165,12 @@ pairAnswer x y = standing (bothOf x y)
 unfoldable pub pairBytes : List ℕ → List ℕ → List ℕ
 pairBytes x y = handedBack (bothOf x y) (pairAnswer x y)
 
+-- "Hand back the one that stands as the caller's own bytes": of two lent slices x and y, slice r is the very one that an answer
+-- names, by where it lies and not only by what it holds; "a refusal hands back an empty part", at the beginning of x
+abbrev pub HandsBack : Answer ℕ → RefT (List ℕ) → RefT (List ℕ) → RefT (List ℕ) → Type 0
+HandsBack (accepted k) x y r = r ≡ cond (eqb k 0) x y
+HandsBack (refused z) x y r = (now r ≡ []) × LiesAt x 0 r
+
 -- the part of its own argument: each begins at 0
 unfoldable pub pairPart : List ℕ → List ℕ → Answer Part
 pairPart x y = placed (λ _. 0) (bothOf x y) (pairAnswer x y)
@@ -193,3 +201,8 @@ fileAnswer f = placed (offsetIn (recordsOf f)) (recordsOf f) (standing (recordsO
 
 unfoldable pub fileBytes : List ℕ → List ℕ
 fileBytes f = handedBack (recordsOf f) (standing (recordsOf f))
+
+-- where the part that is handed back begins in the file: where its record does, and an empty one at 0
+abbrev pub handedFrom : Answer Part → ℕ
+handedFrom (accepted x) = x .offset
+handedFrom (refused z) = 0

@@ -16,6 +16,7 @@ pub mod Keeps
 pub mod Opened
 pub mod Answers
 pub mod Report
+pub mod Lent
 pub mod Streams
 pub mod Exchange
 pub mod Lines

@@ -1,6 +1,6 @@
 -- The plan record: its bytes, what they mean, rules 8 to 12 and 14, and the bytes written from a plan's parts.
 -- Assumes nothing.
-use Prim.Native.Nat.{ℕ, _+_, _*_, _/_, _≤_, _<_}
+use Prim.Native.Nat.{ℕ, _+_, _*_, _/_, _≤_, _<_, min}
 use mathlib.Core.Bool.{Bool, _&&_, not}
 use mathlib.Core.List.{List, [], _∷_, _++_}
 use mathlib.Core.Path.{_≡_}
@@ -76,6 +76,10 @@ plan s =
 -- its grid, the words of all ticks: the part behind the rows
 abbrev pub planGrid : List ℕ → List ℕ
 planGrid s = drop (gridAt (plan s .threads) (plan s .activities)) s
+
+-- where it begins: behind the rows, or at the end of bytes that do not reach so far
+abbrev pub planGridAt : List ℕ → ℕ
+planGridAt s = min (gridAt (plan s .threads) (plan s .activities)) (length s)
 
 -- n rows of two fields: release and period by thread, start and end by activity
 abbrev pub pairRows : ℕ → (ℕ → ℕ) → (ℕ → ℕ) → List ℕ

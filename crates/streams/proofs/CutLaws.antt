@@ -9,7 +9,7 @@ use mathlib.Core.List.{List, []}
 use mathlib.Core.Path.{_≡_, refl, sym, ap, _∙_}
 use lib.Dec.{T, leb, leb→le}
 use lib.ListN.{length, take, drop, length-drop}
-use lib.Seq.{take-all, take-length, drop-length}
+use lib.Seq.{take-all, take-length, drop-length, length-take-le}
 use Rattle.laws.proofs.Tests.{T-and}
 use Rattle.schedule.specs.Fields.{field}
 use Rattle.schedule.specs.Streams.{splits, firstRecord, secondRecord}
@@ -54,3 +54,7 @@ unfolding cut secondRecord
 drop-cut s =
     take-all (length s - cut s) (drop (cut s) s) (omega (arith, length-drop (cut s) s))
     ∙ drop-either (splits s) (field s 0 4) s
+
+-- the second record begins behind as many bytes as the first one has
+pub cut-length : (s : List ℕ) → cut s ≡ length (firstRecord s)
+cut-length s = sym (ap length (sym (take-cut s)) ∙ length-take-le (cut s) s (cut-le s))

@@ -3,7 +3,8 @@
 // Otherwise everything is the first and the second is empty". Nothing is copied.
 ghost use mathlib.Core.Path.{_≡_};
 ghost use Prim.Native.Nat.{min};
-ghost use lib.ListN.{take};
+ghost use lib.ListN.{length, take};
+ghost use Rattle.schedule.specs.Lent.{LiesAt};
 ghost use Rattle.schedule.specs.Streams.{firstRecord, secondRecord};
 ghost use Rattle.streams.specs.Cut;
 
@@ -16,7 +17,7 @@ fn smaller(x: usize, y: usize) -> usize
 
 // The first n bytes, or all where there are fewer.
 pub fn front(s: &[u8], n: usize) -> &[u8]
-    ensures { λ r. ⌜ now r ≡ take n (now (s .entry)) ⌝ }
+    ensures { λ r. ⌜ (now r ≡ take n (now (s .entry))) × LiesAt (s .entry) 0 r ⌝ }
 {
     let end = smaller(n, s.len());
     &s[0..end]
@@ -38,14 +39,15 @@ fn cut(input: &[u8]) -> usize
 }
 
 pub fn first_record(input: &[u8]) -> &[u8]
-    ensures { λ r. ⌜ now r ≡ firstRecord (now (input .entry)) ⌝ }
+    ensures { λ r. ⌜ (now r ≡ firstRecord (now (input .entry))) × LiesAt (input .entry) 0 r ⌝ }
 {
     let end = cut(input);
     &input[0..end]
 }
 
 pub fn second_record(input: &[u8]) -> &[u8]
-    ensures { λ r. ⌜ now r ≡ secondRecord (now (input .entry)) ⌝ }
+    ensures { λ r. ⌜ (now r ≡ secondRecord (now (input .entry)))
+        × LiesAt (input .entry) (length (firstRecord (now (input .entry)))) r ⌝ }
 {
     let start = cut(input);
     &input[start..]

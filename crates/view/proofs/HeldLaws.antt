@@ -1,4 +1,4 @@
--- The part of a plan that is held gives what the view's definition says at each tick.
+-- The part of a plan that is held gives what the view's definition says at each tick, and so does the view that is made of it.
 -- Assumes nothing.
 use Prim.Native.Nat.{ℕ}
 use native.Mathlib.Omega.{arith}
@@ -8,6 +8,7 @@ use mathlib.Core.Option.{Option, some, none}
 use mathlib.Core.Path.{_≡_, refl, ap, ap₂, _∙_}
 use lib.Dec.{ltb}
 use lib.ListN.{length-drop}
+use denote.Ref.{RefT, now}
 use borrow.Author.Tests.{le-ltb}
 use Rattle.schedule.specs.Rule.{Refusal}
 use Rattle.schedule.specs.Model.{model, modelForm}
@@ -17,14 +18,10 @@ use Rattle.laws.proofs.FirstBreak.{none-iff, sound-append, hold-append}
 use Rattle.laws.proofs.Sound.{modelForm-sound, planForm-sound}
 use Rattle.laws.proofs.PlanForm.{WellFormed, form-says}
 use Rattle.laws.proofs.PlanBytes.{word-behind}
-use Rattle.view.specs.Grid.{heldBytes, viewBytes, gridWord}
-
--- ---- what is held
-
--- what is held by the making's answer is what its view holds
-pub held-grid : (s r g : List ℕ) (o : Option Refusal) → g ≡ heldBytes o r → o ≡ viewRefusal s r → g ≡ viewBytes s r
-unfolding viewBytes
-held-grid s r g o e f = e ∙ ap (λ (x : Option Refusal). heldBytes x r) f
+use Rattle.schedule.specs.Lent.{LiesAt}
+use Rattle.records.specs.Reads.{passNumbers}
+use Rattle.records.specs.declared.Pass.{Pass}
+use Rattle.view.specs.Grid.{heldBytes, heldFrom, viewBytes, gridWord, MadeOver}
 
 -- ---- what it gives
 
@@ -59,3 +56,19 @@ module _ (s r : List ℕ) where
   pub grid-gives : (t : ℕ) → gridWord (viewBytes s r) t ≡ viewWord s r t
   unfolding viewBytes viewWord
   grid-gives t = gives t (viewRefusal s r) refl
+
+-- ---- the making
+
+-- what the making answered, and the part of the plan that is held by it, make the view that is promised
+pub made-over : (s : List ℕ) (plan g : RefT (List ℕ)) (p : Pass) → passNumbers p ≡ viewRefusal s (now plan)
+    → now g ≡ heldBytes (passNumbers p) (now plan) → LiesAt plan (heldFrom (passNumbers p) (now plan)) g
+    → MadeOver s plan (record { grid = g; made = p })
+unfolding viewBytes
+made-over s plan g p answered held lies =
+    let holds : now g ≡ viewBytes s (now plan) = rw answered at held in
+    record {
+      answers = answered;
+      says = λ t. ap (λ (bytes : List ℕ). gridWord bytes t) holds ∙ grid-gives s (now plan) t;
+      holds = holds;
+      lies = rw answered at lies;
+    }

@@ -8,7 +8,8 @@ ghost use mathlib.Core.Path.{_≡_};
 ghost use Rattle.schedule.specs.Streams.{viewRefusal, viewWord};
 ghost use Rattle.schedule.specs.Numbers.{wordNumbers};
 ghost use Rattle.records.specs.Reads.{passNumbers};
-ghost use Rattle.view.specs.Grid.{heldBytes, viewBytes, gridWord};
+ghost use Rattle.schedule.specs.Lent.{LiesAt};
+ghost use Rattle.view.specs.Grid.{heldBytes, heldFrom, gridWord, gives, MadeOver};
 
 // "a struct over the plan's grid slice", and what its making answered.
 pub struct View<'a> {
@@ -35,7 +36,8 @@ pub fn refusal(model: &[u8], plan: &[u8]) -> Pass
 
 // The part of a plan that is held: its words, and none where the making is refused.
 fn held(plan: &[u8], made: Pass) -> &[u8]
-    ensures { λ r. ⌜ now r ≡ heldBytes (passNumbers made) (now (plan .entry)) ⌝ }
+    ensures { λ r. ⌜ (now r ≡ heldBytes (passNumbers made) (now (plan .entry)))
+        × LiesAt (plan .entry) (heldFrom (passNumbers made) (now (plan .entry))) r ⌝ }
 {
     if let Pass::Refused(_) = made {
         return &plan[0..0];
@@ -56,10 +58,9 @@ fn word_in(grid: &[u8], t: usize) -> WordAt
 
 // ---- over the struct
 
-// The making: refused or not, it leaves a view.
+// The making: refused or not, it leaves a view, which may be held and asked at any ticks.
 pub fn over<'a>(model: &[u8], plan: &'a [u8]) -> View<'a>
-    ensures { λ r. ⌜ (now (r .grid) ≡ viewBytes (now (model .entry)) (now (plan .entry)))
-        × (passNumbers (r .made) ≡ viewRefusal (now (model .entry)) (now (plan .entry))) ⌝ }
+    ensures { λ r. ⌜ MadeOver (now (model .entry)) (plan .entry) r ⌝ }
 {
     let made = refusal(model, plan);
     View {
@@ -70,7 +71,7 @@ pub fn over<'a>(model: &[u8], plan: &'a [u8]) -> View<'a>
 
 // "a thin call for the word at a tick": of every view, also one that no making made.
 pub fn word<'a>(view: View<'a>, t: usize) -> WordAt
-    ensures { λ r. ⌜ wordNumbers r ≡ gridWord (now (view .entry .grid)) t ⌝ }
+    ensures { λ r. ⌜ wordNumbers r ≡ gives (view .entry) t ⌝ }
 {
     word_in(view.grid, t)
 }

@@ -22,7 +22,7 @@ check-strict-requires c κs = search needs
 
 returns : tie.Need-returns
 returns c =
-    let part = c .before .before .front .ensures in
+    let part = c .before .before .front .ensures .0 in
     let x = c .before .before .before .before .before .before .args in
     ap₂ (λ (plain strict : Answer Answers.Figures). ran (writtenNumbers (x .written)) plain strict)
     (c .before .check-plain .ensures ∙ ap (plainVerdict (x .model .now)) part)

@@ -27,13 +27,13 @@ wrapper-holds-requires c κs = search needs
 returns : tie.Need-returns Inv-loop μ-loop
 returns c =
     let c3 = c .before .before .before in
-    sym (first-refused (c3 .before .before .args .file .now) _ _ (c3 .record-at .ensures) (c .before .before .bytes-of .ensures)
+    sym (first-refused (c3 .before .before .args .file .now) _ _ (c3 .record-at .ensures) (c .before .before .bytes-of .ensures .0)
     (told-no (c .before .wrapper-holds .ensures) (c .if1 .taken)))
 
 loop-holds : tie.Need-loop-holds Inv-loop μ-loop
 loop-holds c =
     let c3 = c .before .before .before in
-    first-taken (c3 .before .before .args .file .now) _ _ (c3 .record-at .ensures) (c .before .before .bytes-of .ensures)
+    first-taken (c3 .before .before .args .file .now) _ _ (c3 .record-at .ensures) (c .before .before .bytes-of .ensures .0)
     (told-yes (c .before .wrapper-holds .ensures) (c .if1 .left))
 
 record-at-requires-2 : tie.Need-record-at-requires-2 Inv-loop μ-loop
@@ -63,7 +63,7 @@ returns-2 c =
     let start = at-loop .before .before .before .before .before .before in
     let l = at-loop .loop in
     sym (next-refused (start .args .file .now) _ _ (l .index) (l .at) _ _ (l .inv) (at-next .before .loop-test .taken)
-    (at-next .record-at2 .ensures) (at-compare .before .before .bytes-of2 .ensures) (at-compare .before .bytes-of3 .ensures)
+    (at-next .record-at2 .ensures) (at-compare .before .before .bytes-of2 .ensures .0) (at-compare .before .bytes-of3 .ensures .0)
     _ _ (at-compare .compare .ensures) (c .before .found .given .1))
 
 enum-known-found-2 : tie.Need-enum-known-found-2 Inv-loop μ-loop
@@ -110,7 +110,7 @@ loop-again c =
     let start = at-loop .before .before .before .before .before .before in
     let l = at-loop .loop in
     next-taken (start .args .file .now) _ _ _ (l .index) (l .at) _ _ (l .inv) (at-next .before .loop-test .taken)
-    (at-next .record-at2 .ensures) (at-compare .before .before .bytes-of2 .ensures) (at-compare .before .bytes-of3 .ensures)
+    (at-next .record-at2 .ensures) (at-compare .before .before .bytes-of2 .ensures .0) (at-compare .before .bytes-of3 .ensures .0)
     _ _ (at-compare .compare .ensures) (c .before .before .before .found2 .given .1) (c .before .upper .ensures)
 
 returns-3 : tie.Need-returns-3 Inv-loop μ-loop

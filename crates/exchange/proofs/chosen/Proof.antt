@@ -1,5 +1,6 @@
--- `exchange::chosen` meets its contract: the part that is answered, or an empty one. Assumes nothing.
-use mathlib.Core.Path.{sym, ap, _∙_}
+-- `exchange::chosen` meets its contract: the part that is answered, or an empty one, each where it lies in the file.
+-- Assumes nothing.
+use mathlib.Core.Path.{refl, sym, ap, _∙_}
 use Rattle.schedule.specs.Numbers.{chosenNumbers}
 use Rattle.laws.proofs.FileRecords.{chosen-part, chosen-nothing}
 use borrow.Author.Needs.{needs}
@@ -33,14 +34,21 @@ part-result-end c = search needs
 returns : tie.Need-returns
 returns c =
     let at-choose = c .before .before .before .before in
-    let part = chosen-part (at-choose .before .before .args .file .now) _
-    (sym (at-choose .choose .ensures) ∙ ap chosenNumbers (c .before .before .found .given .1)) in
-    c .bytes-of .ensures ∙ sym (part .bytes ∙ part .lies)
+    let file = at-choose .before .before .args .file in
+    let answered = sym (at-choose .choose .ensures) ∙ ap chosenNumbers (c .before .before .found .given .1) in
+    let part = chosen-part (file .now) _ answered in (
+      c .bytes-of .ensures .0 ∙ sym (part .bytes ∙ part .lies),
+      rw answered (c .bytes-of .ensures .1),
+    )
 
 returns-2 : tie.Need-returns-2
 returns-2 c =
-    sym (chosen-nothing (c .before .before .before .before .before .args .file .now) _
-    (sym (c .before .before .before .choose .ensures) ∙ ap chosenNumbers (c .before .enum-told .given .1)) .1)
+    let at-choose = c .before .before .before in
+    let file = at-choose .before .before .args .file in
+    let answered = sym (at-choose .choose .ensures) ∙ ap chosenNumbers (c .before .enum-told .given .1) in (
+      sym (chosen-nothing (file .now) _ answered .1),
+      rw answered refl,
+    )
 
 pub chosen-spec : {M : Type 1} → statement M
 chosen-spec =

@@ -12,12 +12,12 @@ front-requires c κs = search needs
 
 verdicts-requires : tie.Need-verdicts-requires
 verdicts-requires c κs =
-    simp (c .front .ensures, length-take) (omega (arith, c .before .all .given .0))
+    simp (c .front .ensures .0, length-take) (omega (arith, c .before .all .given .0))
 
 returns : tie.Need-returns
 returns c = (
   c .before .before .all .given .0,
-  (c .verdicts .ensures .0, printed-of gridcheck _ _ (c .before .front .ensures) (c .verdicts .ensures .1)),
+  (c .verdicts .ensures .0, printed-of gridcheck _ _ (c .before .front .ensures .0) (c .verdicts .ensures .1)),
 )
 
 pub answer-spec : {M : Type 1} → statement M

@@ -34,8 +34,8 @@ returns c =
     let start = first .before .before in
     let lines = c .before .check-lines .ensures in (
       omega (arith, c .before .check-lines .kept, printed-le _ _ lines),
-      answered (start .args .taken .now) _ (start .pre) (first .first-record .ensures)
-          (second .second-record .ensures) (plain .check-plain .ensures) (strict .check-strict .ensures) (omega arith) lines,
+      answered (start .args .taken .now) _ (start .pre) (first .first-record .ensures .0)
+          (second .second-record .ensures .0) (plain .check-plain .ensures) (strict .check-strict .ensures) (omega arith) lines,
     )
 
 pub verdicts-spec : {M : Type 1} → statement M

@@ -45,7 +45,7 @@ returns c =
     let lines = c .before .late-lines .ensures in (
       omega (arith, c .before .late-lines .kept, printed-le _ _ lines),
       answered (start .args .taken .now) _ _ _ _ _ _ (start .pre) (λ i _. known .shared-slice-known .given i .fits)
-          (second .before .first-record .ensures) (second .second-record .ensures)
+          (second .before .first-record .ensures .0) (second .second-record .ensures .0)
           (ap (λ (r : Sizes). r .activities) (counted .counts .ensures))
           (reported .lateness .ensures .0) (reported .lateness .ensures .1) (omega arith) lines,
     )

@@ -12,12 +12,12 @@ front-requires c κs = search needs
 
 page-requires : tie.Need-page-requires
 page-requires c κs =
-    simp (c .front .ensures, length-take) (omega (arith, c .before .all .given .0))
+    simp (c .front .ensures .0, length-take) (omega (arith, c .before .all .given .0))
 
 returns : tie.Need-returns
 returns c = (
   c .before .before .all .given .0,
-  (c .page .ensures .0, printed-of gridrun _ _ (c .before .front .ensures) (c .page .ensures .1)),
+  (c .page .ensures .0, printed-of gridrun _ _ (c .before .front .ensures .0) (c .page .ensures .1)),
 )
 
 pub answer-spec : {M : Type 1} → statement M

@@ -38,7 +38,7 @@ returns c =
     let lines = c .before .run-lines .ensures in (
       omega (arith, c .before .run-lines .kept, printed-le _ _ lines),
       answered (start .args .taken .now) _ _ _ _ _ _ (start .pre) (λ i _. known .shared-slice-known .given i .fits)
-          (first .first-record .ensures) (ran .before .before .second-record .ensures) refl
+          (first .first-record .ensures .0) (ran .before .before .second-record .ensures .0) refl
           (ran .run .ensures .0) (ran .run .ensures .1) (omega arith) lines,
     )
 

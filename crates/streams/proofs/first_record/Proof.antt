@@ -1,5 +1,6 @@
--- `streams::first_record` meets its contract: the part before the cut is the first record.
+-- `streams::first_record` meets its contract: the part before the cut is the first record, and begins where the input does.
 -- Assumes nothing.
+use mathlib.Core.Path.{refl}
 use borrow.Author.Needs.{needs}
 use native.Mathlib.Omega.{arith}
 use native.Mathlib.Numerals.{unary-clauses}
@@ -20,7 +21,10 @@ part-result-end : tie.Need-part-result-end
 part-result-end c = omega (arith, cut-le (c .before .before .args .input .now), c .cut .ensures)
 
 returns : tie.Need-returns
-returns c = simp (c .before .cut .ensures, unary-clauses) (take-cut (c .before .before .before .args .input .now))
+returns c = (
+  simp (c .before .cut .ensures, unary-clauses) (take-cut (c .before .before .before .args .input .now)),
+  refl,
+)
 
 pub first-record-spec : {M : Type 1} → statement M
 first-record-spec =

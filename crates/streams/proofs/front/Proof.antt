@@ -1,4 +1,5 @@
 -- `streams::front` meets its contract: no more bytes than there are. Assumes nothing.
+use mathlib.Core.Path.{refl}
 use borrow.Author.Needs.{needs}
 use native.Mathlib.Numerals.{unary-clauses}
 use Rattle.streams.proofs.CutLaws.{take-least}
@@ -20,7 +21,7 @@ part-result-end c = search needs
 returns : tie.Need-returns
 returns c =
     let x = c .before .before .before .args in
-    simp (c .before .smaller .ensures, unary-clauses) (take-least (x .n) (x .s .now))
+    (simp (c .before .smaller .ensures, unary-clauses) (take-least (x .n) (x .s .now)), refl)
 
 pub front-spec : {M : Type 1} → statement M
 front-spec =

@@ -1,7 +1,7 @@
 -- `view::held` meets its contract: the plan's words, or nothing where the making is refused.
 -- Assumes nothing.
 use mathlib.Core.Path.{refl}
-use Rattle.view.specs.Grid.{heldBytes}
+use Rattle.view.specs.Grid.{heldBytes, heldFrom}
 use borrow.Author.Needs.{needs}
 use Rattle.view.proofs.held.Statement.{statement}
 use Rattle.view.proofs.held.Tie as tie
@@ -19,8 +19,8 @@ part-result-end : tie.Need-part-result-end
 part-result-end c = search needs
 
 returns : tie.Need-returns
-unfolding heldBytes
-returns c = rw (c .before .enum-told .given .1) refl
+unfolding heldBytes heldFrom
+returns c = rw (c .before .enum-told .given .1) (refl, refl)
 
 enum-told-2 : tie.Need-enum-told-2
 enum-told-2 c = search needs
@@ -29,7 +29,7 @@ words-requires : tie.Need-words-requires
 words-requires c κs = search needs
 
 returns-2 : tie.Need-returns-2
-unfolding heldBytes
+unfolding heldBytes heldFrom
 returns-2 c = rw (c .before .enum-told2 .given .1) (c .words .ensures)
 
 pub held-spec : {M : Type 1} → statement M

@@ -45,14 +45,15 @@ use denote.Triple.Table.{entered, cited}
 use denote.Triple.Walked.{says, Stays, stay-none-slice, walkOf, goes-none-slice, Walks, ends-at, walked, walk-meets}
 use denote.Exit.{yes}
 use denote.Triple.Clauses.{ensured, lasts}
+use Rattle.schedule.specs.Lent.{LiesAt}
 use Rattle.schedule.specs.Streams.{viewRefusal}
 use Rattle.records.specs.Reads.{passNumbers}
 use Rattle.records.specs.declared.Pass.{Pass}
 use Rattle.records.proofs.Pass as P
 use Rattle.records.proofs.Pass.Laws as P′
-use Rattle.view.specs.Grid.{heldBytes}
+use Rattle.view.specs.Grid.{heldBytes, heldFrom}
 use Rattle.view.specs.declared.View.{View}
-use Rattle.view.proofs.HeldLaws.{held-grid}
+use Rattle.view.proofs.HeldLaws.{made-over}
 use Rattle.view.proofs.View as T
 use Rattle.view.proofs.View.Laws as T′
 use Rattle.view.proofs.refusal as refusal
@@ -203,7 +204,7 @@ module _
     HeldEnsured g = ensured 𝓤 H A held.ended (held.clauses 𝓤 H A mem run) (κ′, tt) (r, (p, tt)) tt g
 
     abbrev Kept : RefT (List ℕ) → Type 0
-    Kept g = now g ≡ heldBytes (passNumbers p) (now r)
+    Kept g = (now g ≡ heldBytes (passNumbers p) (now r)) × LiesAt r (heldFrom (passNumbers p) (now r)) g
 
     held-said : (g : RefT (List ℕ)) → ent 𝓤 (HeldEnsured g) (fact 𝓤 (Kept g))
     held-said g = exE 𝓤 _ (λ ws. snd∗ 𝓤 (sem 𝓤 H A (lasts held.ended (κ′, tt) (r, (p, tt)) ws)) (fact 𝓤 (Kept g)))
@@ -227,7 +228,7 @@ module _
           qed W (‵ OwnG ∷ Token ∷ Rest ∷ []) ∵
           suffices ! _
           (ends-at 𝓤 H A over.ended stayed (over.clauses 𝓤 H A mem run) W here mach made (tt, (tt, tt)) (tt, (tt, tt))) $
-          says ! (held-grid (now s) (now r) (now g) (passNumbers p) e′ e, e) $
+          says ! (made-over (now s) r g p e (e′ .0) (e′ .1)) $
           move ! (2 ∷ []) $ split ! $ move ! (1 ∷ []) $ split ! $ move ! (0 ∷ 4 ∷ []) $ join ! $ frame ! $
           -- [what s and r own; what p owns; what g owns]
           split ! $ nothing ! $ move ! (2 ∷ 0 ∷ []) $ fjoin ! $ move ! (1 ∷ 0 ∷ []) $ fjoin ! $ frame ! $

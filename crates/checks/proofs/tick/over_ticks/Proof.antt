@@ -116,7 +116,7 @@ returns c =
     tick-read (x .rule) m p (x .tables .now) _ (l .inv .4) (l .inv .7)
     (width-lt (x .s .now) (λ i _. c16 .before .before .shared-slice-known .given i .fits))
     (l .t) _ _ _ _ (x .widths) (c5 .word .ok)
-    (word-read (x .r .now) _ (l .t) _ (c9 .before .before .before .words .ensures) (c5 .word .ensures))
+    (word-read (x .r .now) _ (l .t) _ (c9 .before .before .before .words .ensures .0) (c5 .word .ensures))
     (l .inv .3) (start .pre .1) (c5 .before .at .ensures .0) (l .inv .2) in
     let few = tick-shape (x .rule) m p .1 (l .inv .4 .few) in
     c .refused .ensures
@@ -149,7 +149,7 @@ loop-again c =
     tick-read (x .rule) m p (x .tables .now) _ (l .inv .4) (l .inv .7)
     (width-lt (x .s .now) (λ i _. c15 .before .before .shared-slice-known .given i .fits))
     (l .t) _ _ _ _ (x .widths) (c4 .word .ok)
-    (word-read (x .r .now) _ (l .t) _ (c9 .before .before .words .ensures) (c4 .word .ensures))
+    (word-read (x .r .now) _ (l .t) _ (c9 .before .before .words .ensures .0) (c4 .word .ensures))
     (l .inv .3) (start .pre .1) (c4 .before .at .ensures .0) (l .inv .2) in
     let few = tick-shape (x .rule) m p .1 (l .inv .4 .few) in (
       omega (arith, c4 .before .before .before .before .loop-test .taken),

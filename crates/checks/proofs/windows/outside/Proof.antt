@@ -64,7 +64,7 @@ loop-again c =
     let l = c4 .loop in
     let x = start .args in
     let at = c .before .before .at in
-    let word = word-read (x .r .now) _ (l .t) _ (c4 .before .before .words .ensures) (c .before .word .ensures) in (
+    let word = word-read (x .r .now) _ (l .t) _ (c4 .before .before .words .ensures .0) (c .before .word .ensures) in (
       omega arith,
       stands-on _ _ _ (at .ensures .1),
       λ a h. ap (λ (w : ℕ). bit (bitOr (l .strays) w) a)

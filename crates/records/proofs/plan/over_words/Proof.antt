@@ -51,7 +51,7 @@ returns c =
     let sizes = c6 .before .counts .ensures in
     let x = c6 .before .before .before .before .args in
     row-refused _ _ _ _ refl (c5 .loop .inv .1)
-    (word-answered (model (x .s .now)) (x .r .now) _ _ _ _ (c6 .words .ensures) (ap (λ (y : Sizes). y .activities) sizes)
+    (word-answered (model (x .s .now)) (x .r .now) _ _ _ _ (c6 .words .ensures .0) (ap (λ (y : Sizes). y .activities) sizes)
     (c3 .read-word .ensures)) _ _
     (omega (arith, ap (λ (y : Sizes). y .horizon) sizes))
     (c .before .enum-told2 .given .1) (c .pass .ensures)
@@ -71,7 +71,7 @@ loop-again c =
     let x = c5 .before .before .before .before .args in (
       omega arith,
       row-taken _ _ _ _ refl (c4 .loop .inv .1)
-          (word-answered (model (x .s .now)) (x .r .now) _ _ _ _ (c5 .words .ensures) activities
+          (word-answered (model (x .s .now)) (x .r .now) _ _ _ _ (c5 .words .ensures .0) activities
           (c .before .before .read-word .ensures)) _
           (c .enum-told .given .1),
     )

@@ -1,13 +1,11 @@
--- `records::plan::words` meets its contract: the part behind the rows, or nothing where the bytes end before it.
+-- `records::plan::words` meets its contract: the part behind the rows, or an empty one at the end where the bytes end before it.
 -- Assumes nothing.
-use native.Mathlib.Omega.{arith}
-use Prim.Native.Nat.{ℕ, _-_}
-use mathlib.Core.Path.{sym, ap, _∙_}
-use lib.ListN.{length, drop, length-drop, drop-of-length-le}
-use lib.Seq.{take-all}
+use mathlib.Core.Path.{ap, _∙_}
+use lib.ListN.{length}
 use Rattle.schedule.specs.Plan.{gridAt}
 use Rattle.records.specs.declared.plan.PlanSizes.{PlanSizes}
 use Rattle.records.specs.Rows.{planSizesOf}
+use Rattle.records.proofs.GridPart.{grid-part, begins-behind, begins-at-end}
 use borrow.Author.Needs.{needs}
 use Rattle.records.proofs.plan.words.Statement.{statement}
 use Rattle.records.proofs.plan.words.Tie as tie
@@ -39,22 +37,22 @@ part-result-end-2 c = search needs
 returns : tie.Need-returns
 unfolding planSizesOf
 returns c =
-    let c3 = c .before .before .before in
-    let r = c3 .before .before .args .r .now in
-    let at = c .before .before .grid-at .result in
-    take-all (length r - at) (drop at r) (omega (arith, length-drop at r))
-    ∙ ap (λ (k : ℕ). drop k r) (c .before .before .grid-at .ensures)
-    ∙ ap (λ (y : PlanSizes). drop (gridAt (y .threads) (y .activities)) r) (c3 .counts .ensures)
+    let at-counts = c .before .before .before in
+    let r = at-counts .before .before .args .r in
+    let at = c .before .before .grid-at in
+    grid-part (r .now) (r .ptr .0) (r .ptr .1) (at .result)
+    (begins-behind (at .result) _ _ (at .ensures
+    ∙ ap (λ (y : PlanSizes). gridAt (y .threads) (y .activities)) (at-counts .counts .ensures)) (c .before .if1 .taken))
 
 returns-2 : tie.Need-returns-2
 unfolding planSizesOf
 returns-2 c =
-    let c3 = c .before .before .before in
-    let r = c3 .before .before .args .r .now in
-    let at = c .before .before .grid-at .result in
-    sym (drop-of-length-le r {i = at} (omega (arith, c .before .if1 .left)))
-    ∙ ap (λ (k : ℕ). drop k r) (c .before .before .grid-at .ensures)
-    ∙ ap (λ (y : PlanSizes). drop (gridAt (y .threads) (y .activities)) r) (c3 .counts .ensures)
+    let at-counts = c .before .before .before in
+    let r = at-counts .before .before .args .r in
+    let at = c .before .before .grid-at in
+    grid-part (r .now) (r .ptr .0) (r .ptr .1) (length (r .now))
+    (begins-at-end (at .result) _ _ (at .ensures
+    ∙ ap (λ (y : PlanSizes). gridAt (y .threads) (y .activities)) (at-counts .counts .ensures)) (c .before .if1 .left))
 
 pub words-spec : {M : Type 1} → statement M
 words-spec =

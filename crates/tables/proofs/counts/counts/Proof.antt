@@ -89,7 +89,7 @@ returns c =
     l .inv .4 i h
     ∙ ap (λ k. count k (λ v. bit (wordIn (words .result .now) v) i)) whole
     ∙ count-ext _ _ _ (λ v _.
-    ap (λ (g : List ℕ). bit (wordIn g v) i) (words .ensures) ∙ ap (λ (w : ℕ). bit w i) (word-behind (x .r .now) v)))
+    ap (λ (g : List ℕ). bit (wordIn g v) i) (words .ensures .0) ∙ ap (λ (w : ℕ). bit w i) (word-behind (x .r .now) v)))
 
 pub counts-spec : {M : Type 1} → statement M
 counts-spec =

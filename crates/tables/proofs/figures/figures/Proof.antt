@@ -67,7 +67,7 @@ returns c =
     let used =
     c .before .usage .ensures
     ∙ ap₂ (λ (g : List ℕ) (w : Widths). total (c8 .counts .result .horizon) (λ t. loadFrom w (wordIn g t)))
-    (c .before .before .before .words .ensures) (c .before .before .widths-of .ensures)
+    (c .before .before .before .words .ensures .0) (c .before .before .widths-of .ensures)
     ∙ total-ext _ _ (λ t. load m p t)
     (λ t _. ap (loadFrom (widthsOf m)) (word-behind (x .r .now) t) ∙ load-is m narrow (p .word t) (words t))
     ∙ ap (λ (y : Sizes). total (y .horizon) (λ t. load m p t)) e in
