@@ -59,7 +59,9 @@ GridAnswer grid_lateness(const uint8_t *model, size_t model_length,
  * series (4), the issue (2), and 1 for withdrawn or 0 for live.
  * number 0: the record numbered `record`, from 0, stands; its first byte in its argument is byte `offset`, and it has
  * `length` bytes. Otherwise number is that of the refusal, and record its A, the record that was tried; offset and length are
- * 0. zero is always 0. */
+ * 0. zero is always 0.
+ * The record that stands may be a withdrawn one: number is 0 then too. So before anything of it is loaded, look at byte
+ * offset + 11 of its argument, 1 for withdrawn. Of a pair its argument is `first` for record 0 and `second` for record 1. */
 typedef struct GridPart {
     uint32_t number;
     uint32_t zero;
@@ -77,7 +79,7 @@ GridPart grid_stands(const uint8_t *first, size_t first_length,
 
 /* Which record stands of a file, wrapped records end to end: each is tried against the one standing so far, by 54, then 55,
  * then 56, and the first refusal is the answer. 54 is also for an empty file and for a wrapper whose length cannot be read or
- * goes past the end of the file. */
+ * goes past the end of the file. Each series needs a file of its own: records of two are 55. */
 GridPart grid_choose(const uint8_t *file, size_t file_length);
 
 #ifdef __cplusplus

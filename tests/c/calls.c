@@ -3,8 +3,8 @@
  * usage: calls FOLDER
  *
  * FOLDER has S.model, S.plan, S-early.plan, S.choice, G.model, G.plan and G.choice. Each answer, every byte of the lent
- * buffer and every row of the lent list are compared with the papers'; the first difference ends the program with a message
- * and status 1.
+ * buffer, every row of the lent list and the flag of every record that stands are compared with the papers'; the first
+ * difference ends the program with a message and status 1.
  */
 #include "grid.h"
 
@@ -15,6 +15,9 @@
 enum {
     PLAN = 61,    /* the bytes of S's plan */
     WRAPPER = 12, /* the bytes in front of a wrapped model */
+    FLAG = 11,    /* which of them says that it is withdrawn */
+    LIVE = 0,
+    WITHDRAWN = 1,
     MOST = 256,   /* room for any of the samples */
     ROWS = 32,    /* the rows of a list that suffices */
     LIST = 64,    /* room for any of the lists */
@@ -131,9 +134,9 @@ static void lateness(const char *what, const Record *model, const Record *choice
 }
 
 /* A model wrapped as an issue of series 7. */
-static Record wrapped(const Record *model, uint8_t issue, uint8_t withdrawn)
+static Record wrapped(const Record *model, uint8_t issue, uint8_t flag)
 {
-    const uint8_t head[WRAPPER] = {0, 0, 0, (uint8_t)(WRAPPER + model->length), 1, 0, 0, 0, 7, 0, issue, withdrawn};
+    const uint8_t head[WRAPPER] = {0, 0, 0, (uint8_t)(WRAPPER + model->length), 1, 0, 0, 0, 7, 0, issue, flag};
     Record made = {0};
 
     memcpy(made.bytes, head, WRAPPER);
@@ -175,24 +178,52 @@ static GridPart chosen(const Record *file)
     return grid_choose(file->bytes, file->length);
 }
 
+/* Whether the record that stands is a withdrawn one: what a caller asks before it loads anything of it. */
+static int withdrawn(const Record *argument, GridPart standing)
+{
+    return argument->bytes[standing.offset + FLAG] == WITHDRAWN;
+}
+
+/* A record stands, and is live or withdrawn. */
+static void handed(const char *what, const Record *argument, GridPart standing, uint64_t record, uint64_t offset,
+                   uint64_t length, int flag)
+{
+    part(what, standing, 0, record, offset, length);
+    if (withdrawn(argument, standing) != flag) {
+        fail(what, flag == WITHDRAWN ? "the record that stands is not withdrawn" : "the record that stands is withdrawn");
+    }
+}
+
+/* One of a pair: it lies in the argument that its number says. */
+static void handed_of(const char *what, const Record *first, const Record *second, uint64_t record, int flag)
+{
+    const GridPart standing = stands(first, second);
+    const Record *argument = standing.record == 0 ? first : second;
+
+    handed(what, argument, standing, record, 0, argument->length, flag);
+}
+
 /* Which wrapped record stands, in pairs and in files. */
 static void exchange(const Record *model)
 {
-    const Record live = wrapped(model, 1, 0), gone = wrapped(model, 1, 1), newer = wrapped(model, 2, 0);
+    const Record live = wrapped(model, 1, LIVE), gone = wrapped(model, 1, WITHDRAWN), newer = wrapped(model, 2, LIVE);
     const uint64_t length = live.length;
     Record altered = live, file;
 
-    part("live, then withdrawn", stands(&live, &gone), 0, 1, 0, length);
-    part("withdrawn, then live", stands(&gone, &live), 0, 0, 0, length);
-    part("a higher issue", stands(&gone, &newer), 0, 1, 0, length);
-    part("equal copies", stands(&live, &live), 0, 0, 0, length);
+    handed_of("live, then withdrawn", &live, &gone, 1, WITHDRAWN);
+    handed_of("withdrawn, then live", &gone, &live, 0, WITHDRAWN);
+    handed_of("a higher issue", &gone, &newer, 1, LIVE);
+    handed_of("equal copies", &live, &live, 0, LIVE);
+    handed_of("equal withdrawn copies", &gone, &gone, 0, WITHDRAWN);
     altered.bytes[8] = 8;
     part("another series", stands(&live, &altered), 55, 1, 0, 0);
+    file = joined(&live, &altered);
+    part("a file of two series", chosen(&file), 55, 1, 0, 0);
     altered = live;
     altered.bytes[WRAPPER + 19] = 6; /* the priority of thread 0 */
     part("other bytes", stands(&live, &altered), 56, 1, 0, 0);
     altered = live;
-    altered.bytes[11] = 2;
+    altered.bytes[FLAG] = 2;
     part("a flag of 2", stands(&altered, &live), 54, 0, 0, 0);
     part("a flag of 2 behind", stands(&live, &altered), 54, 1, 0, 0);
     altered = live;
@@ -200,9 +231,11 @@ static void exchange(const Record *model)
     part("a byte too few", stands(&live, &altered), 54, 1, 0, 0);
 
     file = joined(&live, &gone);
-    part("a file of two", chosen(&file), 0, 1, length, length);
+    handed("a file of two", &file, chosen(&file), 1, length, length, WITHDRAWN);
+    file = joined(&gone, &newer);
+    handed("a file with a higher issue", &file, chosen(&file), 1, length, length, LIVE);
     file = joined(&gone, &live);
-    part("a file of two, withdrawn first", chosen(&file), 0, 0, 0, length);
+    handed("a file of two, withdrawn first", &file, chosen(&file), 0, 0, length, WITHDRAWN);
     file.length -= 1;
     part("a file that ends too early", chosen(&file), 54, 1, 0, 0);
     file.length = 0;
