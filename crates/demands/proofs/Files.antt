@@ -1,4 +1,5 @@
--- The records of a file are the records that it holds end to end, and its answer is the one that stands among them (U6 of 02).
+-- The records of a file are the records that it holds end to end, and its answer is the one that stands among them (U6 of 02);
+-- no answer about wrapped records has the number that is out of the book (U11 of 02).
 -- Assumes nothing.
 use Prim.Native.Nat.{ℕ, zero, suc, _≤_}
 use native.Mathlib.Omega.{arith}
@@ -11,9 +12,14 @@ use Rattle.schedule.specs.Bounded.{chain}
 use Rattle.schedule.specs.Fields.{field}
 use Rattle.schedule.specs.Records.{Within, lengthRule, versionRule}
 use Rattle.schedule.specs.Exchange.{wrapperLength, flagRule, wrapperForm, recordAt, recordEnd, recordsOf, offsetIn}
+use Rattle.schedule.specs.Exchange.{standing, bothOf, pairAnswer, pairPart}
+use Rattle.schedule.specs.Retired.{retired, AnswerNotRetired}
 use Rattle.laws.proofs.FieldLaws.{field-take}
 use Rattle.laws.proofs.FileRecords.{ends, records-none, records-cons, at-offset, joined, chosen-part, chosen-nothing}
+use Rattle.laws.proofs.NumbersLaws.{wraps-never-24}
+use Rattle.laws.proofs.WrappedLaws.{refused-from}
 use Rattle.demands.specs.Exchange.{IsRight, BeginsRecord, FilesHoldRecords, NoOtherRecords, FilesAreChosen}
+use Rattle.demands.specs.Exchange.{TurnedAway, nothing, wrapper, two-series, other-bytes, WrappedNever}
 use Rattle.demands.proofs.Standing.{one-stands}
 
 -- ---- what begins a record
@@ -147,4 +153,26 @@ files-are-chosen f = record {
   in-file = λ x e. chosen-part f x e .bytes ∙ chosen-part f x e .lies;
   turned-away = λ x e. one-stands (recordsOf f) .1 x .0 (chosen-nothing f x e .0);
   nothing = λ x e. chosen-nothing f x e .1;
+}
+
+-- ---- the number that is out of the book
+
+-- records are turned away with 54, 55 or 56
+away-other : (ws : List (List ℕ)) (k number : ℕ) → TurnedAway ws k number → ¬ (number ≡ retired)
+away-other ws k number (nothing e _ _) is = omega (arith, e, is)
+away-other ws k number (wrapper e _ _) is = omega (arith, e, is)
+away-other ws k number (two-series e _ _ _ _ _) is = omega (arith, e, is)
+away-other ws k number (other-bytes e _ _ _ _ _ _ _ _) is = omega (arith, e, is)
+
+standing-other : (ws : List (List ℕ)) → AnswerNotRetired (standing ws)
+standing-other ws x e = away-other ws (x .A) (x .number) (one-stands ws .1 x .0 e .turned-away)
+
+pub wrapped-never : WrappedNever
+unfolding pairAnswer pairPart
+wrapped-never = record {
+  kinds = wraps-never-24;
+  pair = λ x y. standing-other (bothOf x y);
+  pair-part = λ x y z e.
+      standing-other (bothOf x y) z (refused-from (λ _. 0) (bothOf x y) (standing (bothOf x y)) z e);
+  file = λ f x e. standing-other (recordsOf f) x (chosen-nothing f x e .0);
 }

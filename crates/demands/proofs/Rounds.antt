@@ -32,10 +32,10 @@ use Rattle.laws.proofs.FirstBreak.{none-iff, hold-append, says, _&_}
 use Rattle.laws.proofs.PlanForm.{form-says}
 use Rattle.laws.proofs.Sound.{rowRules-sound, modelForm-sound}
 use Rattle.laws.proofs.Unrolled.{page-says, unrolls, limits-kept, ranges-kept, owners-kept, widths-kept, masks-kept}
-use Rattle.demands.specs.Rounds.{PagesUnroll, PagesAreUnrolled, OnePlan, AllPairsFit, SamePage}
+use Rattle.demands.specs.Rounds.{SameGiven, PagesUnroll, PagesAreUnrolled, OnePlan, AllPairsFit, SamePage}
 use Rattle.demands.proofs.Demand3.{demand-3}
 use Rattle.demands.proofs.SamePage.{rows-break}
-use Rattle.demands.proofs.SameAnswers.{same-answers}
+use Rattle.demands.proofs.SameAnswers.{answered-alike}
 use Rattle.demands.proofs.ModelBytes.{Fits, length-modelBytes, bytes-modelBytes, reads-back}
 use Rattle.demands.proofs.ModelBytes.{version-one, version-three, version-known}
 use Rattle.demands.proofs.ModelBack.{Ends, single, reads-page, model-back}
@@ -192,6 +192,8 @@ pages-are-unrolled s b h =
     let held : firstBreak (modelForm u) ≡ none = none-iff (modelForm u) (modelForm-sound u) .1 meets in
     let version = reads-back (model s) (model-fits s b) .version in
     let page-same = same s b h in
+    let given : SameGiven s u =
+    record { form = holds ∙ sym held; says = sym (model-back (model s) (model-fits s b) (model-ends s)) } in
     record {
       bytes = bytes-modelBytes (model s);
       version-1 = λ one. version ∙ version-one (model s) one;
@@ -200,7 +202,8 @@ pages-are-unrolled s b h =
       no-loops = λ a l. sym (page-same .loop a (omega (arith, page-same .activities)));
       formed = meets;
       unrolls = same-unrolls s b h (pages-unroll s b h);
-      same = same-answers s u (holds ∙ sym held) (sym (model-back (model s) (model-fits s b) (model-ends s)));
+      given = given;
+      same = answered-alike s u given;
     }
 
 -- and its single strict plan is that of its unrolled model

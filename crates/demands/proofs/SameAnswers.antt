@@ -37,21 +37,25 @@ use Rattle.schedule.specs.Report.{rowsRule, reportRules, reportAnswer, rowsAfte
 use Rattle.schedule.specs.Streams.{word, past, orPast, viewRefusal, viewWord}
 use Rattle.laws.proofs.FirstBreak.{prepend-same}
 use Rattle.demands.specs.Strict.{HasChoices, Passes}
-use Rattle.demands.specs.Rounds.{SameAnswers}
+use Rattle.demands.specs.Rounds.{SameGiven, MadeAlike, TriedAlike, AnsweredAlike}
 
-module _ (s u : List ℕ) (e : firstBreak (modelForm s) ≡ firstBreak (modelForm u)) (m : model s ≡ model u) where
-  -- the first break of the form rules and of others that speak of the model
-  behind : (rules : Model → List Rule)
-      → firstBreak (modelForm s ++ rules (model s)) ≡ firstBreak (modelForm u ++ rules (model u))
-  behind rules =
-      prepend-same (modelForm s) (modelForm u) (rules (model s)) e
-      ∙ ap (λ (x : Model). firstBreak (modelForm u ++ rules x)) m
+pub made-alike : MadeAlike
+made-alike A make s u same = ap₂ make (same .form) (same .says)
 
-  -- a verdict by those rules, with figures of the model
+pub tried-alike : TriedAlike
+tried-alike rules s u same =
+    prepend-same (modelForm s) (modelForm u) (rules (model s)) (same .form)
+    ∙ ap (λ (x : Model). firstBreak (modelForm u ++ rules x)) (same .says)
+
+module _ (s u : List ℕ) (same : SameGiven s u) where
+  m : model s ≡ model u
+  m = same .says
+
+  -- a verdict by the form rules and others that speak of the model, with figures of the model
   verdict : {F : Type 0} (rules : Model → List Rule) (pass : Model → F)
       → answer (firstBreak (modelForm s ++ rules (model s))) (pass (model s))
       ≡ answer (firstBreak (modelForm u ++ rules (model u))) (pass (model u))
-  verdict rules pass = ap₂ answer (behind rules) (ap pass m)
+  verdict rules pass = ap₂ answer (tried-alike rules s u same) (ap pass m)
 
   plain-same : (r : List ℕ) → plainVerdict s r ≡ plainVerdict u r
   unfolding plainVerdict plainChecks
@@ -63,7 +67,7 @@ module _ (s u : List ℕ) (e : firstBreak (modelForm s) ≡ firstBreak (modelFor
 
   view-same : (r : List ℕ) → viewRefusal s r ≡ viewRefusal u r
   unfolding viewRefusal
-  view-same r = behind (λ x. planForm x r)
+  view-same r = tried-alike (λ x. planForm x r) s u same
 
   word-same : (r : List ℕ) (t : ℕ) → viewWord s r t ≡ viewWord u r t
   unfolding viewWord
@@ -72,7 +76,7 @@ module _ (s u : List ℕ) (e : firstBreak (modelForm s) ≡ firstBreak (modelFor
 
   input-same : (q : List ℕ) → firstBreak (runChecks s q) ≡ firstBreak (runChecks u q)
   unfolding runChecks
-  input-same q = behind (λ x. choiceForm x q)
+  input-same q = tried-alike (λ x. choiceForm x q) s u same
 
   outcome-same : (q : List ℕ) (room : ℕ) → runOutcome s q room ≡ runOutcome u q room
   unfolding runOutcome
@@ -102,18 +106,23 @@ module _ (s u : List ℕ) (e : firstBreak (modelForm s) ≡ firstBreak (modelFor
     },
   )
 
-pub same-answers : (s u : List ℕ) → firstBreak (modelForm s) ≡ firstBreak (modelForm u) → model s ≡ model u → SameAnswers s u
+pub answered-alike : AnsweredAlike
 unfolding runAnswer runBuffer reportRows
-same-answers s u e m = record {
-  plain = plain-same s u e m;
-  strict = strict-same s u e m;
-  view = view-same s u e m;
-  word = word-same s u e m;
-  run = λ q room. ap answerOf (outcome-same s u e m q room);
+answered-alike s u same = record {
+  plain = plain-same s u same;
+  strict = strict-same s u same;
+  view = view-same s u same;
+  word = word-same s u same;
+  run = λ q room. ap answerOf (outcome-same s u same q room);
   buffer = λ q buffer.
-      ap₂ (λ (o : Outcome) (x : Model). bufferAfter o x (choice q) buffer) (outcome-same s u e m q (length buffer)) m;
-  report = report-same s u e m;
+      ap₂ (λ (o : Outcome) (x : Model). bufferAfter o x (choice q) buffer)
+      (outcome-same s u same q (length buffer)) (same .says);
+  report = report-same s u same;
   rows = λ q list.
-      ap₂ (λ (v : Answer Written) (x : Model). rowsAfter v x (choice q) list) (report-same s u e m q (length list)) m;
-  passes = λ q r. (passes-on s u e m q r, passes-on u s (sym e) (sym m) q r);
+      ap₂ (λ (v : Answer Written) (x : Model). rowsAfter v x (choice q) list)
+      (report-same s u same q (length list)) (same .says);
+  passes = λ q r. (
+    passes-on s u same q r,
+    passes-on u s (record { form = sym (same .form); says = sym (same .says) }) q r,
+  );
 }

@@ -4,6 +4,7 @@ use Prim.Native.Nat.{ℕ, _*_, _/_, _%_, _<_}
 use native.Mathlib.Decide.{decLt}
 use native.Mathlib.Nat.{mod-le}
 use native.Mathlib.Omega.{arith}
+use mathlib.Core.List.{List}
 use mathlib.Core.Path.{_≡_, refl, sym, ap₂, fun-ext, _∙_}
 use borrow.Author.Tests.{lt-ltb, le-ltb}
 use Rattle.schedule.specs.Rule.{firstBreak}
@@ -14,9 +15,9 @@ use Rattle.schedule.specs.Opened.{form-rules}
 use Rattle.laws.proofs.FirstBreak.{break-same, break-none}
 use Rattle.laws.proofs.Sound.{headRules-sound}
 use Rattle.laws.proofs.RoundLaws.{placed}
-use Rattle.demands.specs.Rounds.{SamePage, VersionsAgree}
+use Rattle.demands.specs.Rounds.{SamePage, Sized, SameGiven, VersionsAgree}
 use Rattle.demands.proofs.BreakAlike.{cons-same}
-use Rattle.demands.proofs.SameAnswers.{same-answers}
+use Rattle.demands.proofs.SameAnswers.{answered-alike}
 
 -- two models that say the same are the same
 pub model-ext : (x y : Model) → x .cores ≡ y .cores → x .threads ≡ y .threads → x .activities ≡ y .activities
@@ -131,21 +132,29 @@ module _ (p q : Page) (same : SamePage p q) where
       (same .rounds) (same .activities) (λ _ x l. same .width x l))
 
 -- the papers' versions of one page: 1, 2 and 4 hold of both records, and the other rules break alike
+module _ (s u : List ℕ) (hs : Sized s) (hu : Sized u) (same : SamePage (page s) (page u)) where
+  forms-break : firstBreak (modelForm s) ≡ firstBreak (modelForm u)
+  unfolding modelForm form-rules
+  forms-break =
+      let ss = headRules-sound s in
+      let us = headRules-sound u in
+      cons-same _ _ _ _ (break-none _ (ss .0) .1 (hs .0) ∙ sym (break-none _ (us .0) .1 (hu .0)))
+      (cons-same _ _ _ _ (break-none _ (ss .1 .0) .1 (hs .1 .0) ∙ sym (break-none _ (us .1 .0) .1 (hu .1 .0)))
+      (cons-same _ _ _ _
+      (break-same (limitsRule (page s .plain)) (limitsRule (page u .plain)) refl refl refl
+      (λ _ _ _ _. rw (same .cores, same .threads, same .activities, same .horizon) refl))
+      (cons-same _ _ _ _
+      (break-none _ (ss .1 .1 .1 .0) .1 (hs .1 .1 .0) ∙ sym (break-none _ (us .1 .1 .1 .0) .1 (hu .1 .1 .0)))
+      (cons-same _ _ _ _
+      (break-same (roundsRule (page s)) (roundsRule (page u)) refl refl refl
+      (λ _ _ _ _. rw (same .rounds, same .threads, same .activities) refl))
+      (rows-break (page s) (page u) same)))))
+
+  given : SameGiven s u
+  unfolding model
+  given = record { form = forms-break; says = models-same (page s) (page u) same }
+
 pub versions-agree : VersionsAgree
-unfolding model modelForm form-rules
 versions-agree s u hs hu same =
-    let ss = headRules-sound s in
-    let us = headRules-sound u in
-    same-answers s u
-    (cons-same _ _ _ _ (break-none _ (ss .0) .1 (hs .0) ∙ sym (break-none _ (us .0) .1 (hu .0)))
-    (cons-same _ _ _ _ (break-none _ (ss .1 .0) .1 (hs .1 .0) ∙ sym (break-none _ (us .1 .0) .1 (hu .1 .0)))
-    (cons-same _ _ _ _
-    (break-same (limitsRule (page s .plain)) (limitsRule (page u .plain)) refl refl refl
-    (λ _ _ _ _. rw (same .cores, same .threads, same .activities, same .horizon) refl))
-    (cons-same _ _ _ _
-    (break-none _ (ss .1 .1 .1 .0) .1 (hs .1 .1 .0) ∙ sym (break-none _ (us .1 .1 .1 .0) .1 (hu .1 .1 .0)))
-    (cons-same _ _ _ _
-    (break-same (roundsRule (page s)) (roundsRule (page u)) refl refl refl
-    (λ _ _ _ _. rw (same .rounds, same .threads, same .activities) refl))
-    (rows-break (page s) (page u) same))))))
-    (models-same (page s) (page u) same)
+    let both = given s u hs hu same in
+    (both, answered-alike s u both)

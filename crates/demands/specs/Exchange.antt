@@ -11,7 +11,9 @@ use Rattle.schedule.specs.Fields.{field}
 use Rattle.schedule.specs.Rule.{Refusal, AllHold}
 use Rattle.schedule.specs.Answers.{accepted, refused, MeetsForm}
 use Rattle.schedule.specs.Exchange.{series, issue, withdrawn, wrapperForm, Outranks, standing, recordAt, Part}
-use Rattle.schedule.specs.Exchange.{bothOf, pairAnswer, pairBytes, recordsOf, offsetIn, fileAnswer, fileBytes}
+use Rattle.schedule.specs.Exchange.{bothOf, pairAnswer, pairBytes, pairPart, recordsOf, offsetIn, fileAnswer, fileBytes}
+use Rattle.schedule.specs.Numbers.{wrapNumber}
+use Rattle.schedule.specs.Retired.{NoCaseRetired, AnswerNotRetired}
 
 -- ---- records in a list
 
@@ -137,3 +139,12 @@ pub record FileAnswers (f : List ℕ) : Type 0 where
 
 abbrev pub FilesAreChosen : Type 0
 FilesAreChosen = (f : List ℕ) → FileAnswers f
+
+-- ---- the number that is out of the book
+
+-- 24 "is never used again" (U11 of 02): no kind of refusal of wrapped records has it, and no pair and no file is answered with it
+pub record WrappedNever : Type 0 where
+  pub kinds : NoCaseRetired wrapNumber
+  pub pair : (x y : List ℕ) → AnswerNotRetired (pairAnswer x y)
+  pub pair-part : (x y : List ℕ) → AnswerNotRetired (pairPart x y)
+  pub file : (f : List ℕ) → AnswerNotRetired (fileAnswer f)

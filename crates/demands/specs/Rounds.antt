@@ -3,16 +3,17 @@
 -- version 3 where some width is not (U7 of 02).
 -- Assumes nothing.
 use Prim.Native.Nat.{ℕ, _+_, _≤_, _<_}
-use mathlib.Core.List.{List, [], _∷_}
+use mathlib.Core.List.{List, [], _∷_, _++_}
 use mathlib.Core.Logic.{_↔_}
+use mathlib.Core.Option.{Option}
 use mathlib.Core.Path.{_≡_}
 use lib.IntN.{ℤ}
 use lib.ListN.{length}
 use Rattle.schedule.specs.Fields.{field, Bytes}
-use Rattle.schedule.specs.Rule.{AllHold}
+use Rattle.schedule.specs.Rule.{Rule, Refusal, firstBreak, AllHold}
 use Rattle.schedule.specs.Records.{lengthRule, versionRule, formulaRule}
 use Rattle.schedule.specs.Rounds.{noLoop}
-use Rattle.schedule.specs.Model.{Page, page, model, modelLength, newestModel}
+use Rattle.schedule.specs.Model.{Model, Page, page, model, modelLength, newestModel, modelForm}
 use Rattle.schedule.specs.Unrolls.{Unrolls}
 use Rattle.schedule.specs.ModelBytes.{modelBytes}
 use Rattle.schedule.specs.Answers.{accepted, plainVerdict, strictVerdict, Written, lengthNeeded, runAnswer, runBuffer}
@@ -29,8 +30,25 @@ PagesUnroll = (s : List ℕ) → Bytes s → MeetsForm s → Unrolls (page s) (m
 
 -- ---- the page is its unrolled model
 
--- Two records of a model get the same answers: every verdict with its figures or its number and place, every view, run, buffer
--- and report, and the plans that demand 3 speaks of.
+-- What is answered about a model's record is made of two things: the form rule that it breaks first, or none, and the model that
+-- it says. Two records give the same.
+pub record SameGiven (s u : List ℕ) : Type 0 where
+  pub form : firstBreak (modelForm s) ≡ firstBreak (modelForm u)
+  pub says : model s ≡ model u
+
+-- So whatever is made of these is the same for both records, and so is the first break of the form rules and any others that
+-- speak of the model: what a later call answers too, if it asks for no more. One that asks for the page itself, as for its rounds
+-- or its own threads, is not of this kind.
+abbrev pub MadeAlike : Type 1
+MadeAlike = (A : Type 0) (make : Option Refusal → Model → A) (s u : List ℕ) → SameGiven s u
+    → make (firstBreak (modelForm s)) (model s) ≡ make (firstBreak (modelForm u)) (model u)
+
+abbrev pub TriedAlike : Type 1
+TriedAlike = (rules : Model → List Rule) (s u : List ℕ) → SameGiven s u
+    → firstBreak (modelForm s ++ rules (model s)) ≡ firstBreak (modelForm u ++ rules (model u))
+
+-- What follows for the calls of today. Two records of a model get the same answers: every verdict with its figures or its number
+-- and place, every view, run, buffer and report, and the plans that demand 3 speaks of.
 pub record SameAnswers (s u : List ℕ) : Type 0 where
   pub plain : (r : List ℕ) → plainVerdict s r ≡ plainVerdict u r
   pub strict : (r : List ℕ) → strictVerdict s r ≡ strictVerdict u r
@@ -42,9 +60,12 @@ pub record SameAnswers (s u : List ℕ) : Type 0 where
   pub rows : (q : List ℕ) (list : List ℤ) → reportRows s q list ≡ reportRows u q list
   pub passes : (q r : List ℕ) → Passes s q r ↔ Passes u q r
 
+abbrev pub AnsweredAlike : Type 0
+AnsweredAlike = (s u : List ℕ) → SameGiven s u → SameAnswers s u
+
 -- A record u is that of a page's unrolled model: its version is 1 where every width of the model is 1, and 3 where some width is
 -- not; it has one round and no loops; its bytes meet the form rules, the plain model that they say is the page's unrolled, and
--- the two records get the same answers.
+-- the two records give the same and get the same answers.
 pub record IsUnrolled (s u : List ℕ) : Type 0 where
   pub bytes : Bytes u
   pub version-1 : OfWidthOne (model s) → field u 4 1 ≡ 1
@@ -53,6 +74,7 @@ pub record IsUnrolled (s u : List ℕ) : Type 0 where
   pub no-loops : (a : ℕ) → a < page u .plain .activities → page u .loop a ≡ noLoop
   pub formed : MeetsForm u
   pub unrolls : Unrolls (page s) (page u .plain)
+  pub given : SameGiven s u
   pub same : SameAnswers s u
 
 abbrev pub PagesAreUnrolled : Type 0
@@ -101,11 +123,11 @@ Sized s = AllHold (
     ∷ formulaRule 4 (modelLength (field s 4 1) (page s .plain .threads) (page s .plain .activities)) s
     ∷ [])
 
--- records that pass these and say the same page, in one version or in two, get the same answers, refused or not: so a version
--- 2 record with i 1 and no loops answers as the version 1 record of the same page, and a version 3 record whose widths are all 1
--- as the version 2 record of it
+-- records that pass these and say the same page, in one version or in two, give the same and get the same answers, refused or
+-- not: so a version 2 record with i 1 and no loops answers as the version 1 record of the same page, and a version 3 record whose
+-- widths are all 1 as the version 2 record of it
 abbrev pub VersionsAgree : Type 0
-VersionsAgree = (s u : List ℕ) → Sized s → Sized u → SamePage (page s) (page u) → SameAnswers s u
+VersionsAgree = (s u : List ℕ) → Sized s → Sized u → SamePage (page s) (page u) → SameGiven s u × SameAnswers s u
 
 -- ---- "later models are longer"
 

@@ -6,15 +6,17 @@ use mathlib.Core.List.{List, [], _∷_, _++_, map}
 use mathlib.Core.Path.{_≡_}
 use lib.Dec.{leb}
 use Rattle.schedule.specs.declared.Refusal.{Refusal}
-use Rattle.schedule.specs.Rule
 use Rattle.schedule.specs.Rule.{Rule, firstBreak, Everywhere}
 use Rattle.schedule.specs.Model.{Model, model, modelForm}
 use Rattle.schedule.specs.Plan.{Plan, plan, planForm}
 use Rattle.schedule.specs.Checks.{countOf, plainRules, strictRules}
 use Rattle.schedule.specs.Checks.{rule21, rule22, rule23, rule25, rule26, rule27, rule28, rule29, rule30, rule31}
 use Rattle.schedule.specs.Keeps.{KeepsPlain}
-use Rattle.schedule.specs.Answers.{Answer, refused, answer, Figures, figures, plainVerdict, strictVerdict}
-use Rattle.schedule.specs.Numbers.{refusalNumbers}
+use Rattle.schedule.specs.Answers.{Answer, answer, Figures, figures, plainVerdict, strictVerdict, runAnswer}
+use Rattle.schedule.specs.Report.{reportAnswer}
+use Rattle.schedule.specs.Streams.{viewRefusal}
+use Rattle.schedule.specs.Numbers.{formNumber, ruleNumber, runNumber, refusalNumbers}
+use Rattle.schedule.specs.Retired.{NoCaseRetired, AnswerNotRetired, RefusalNotRetired}
 
 -- ---- the former checks
 
@@ -83,12 +85,16 @@ pub record TakenOut (m : Model) (p : Plan) : Type 0 where
   pub strict-before : numbersIn (formerStrict m p) ≡ 21 ∷ 22 ∷ 23 ∷ 24 ∷ 25 ∷ 26 ∷ 27 ∷ 28 ∷ 29 ∷ 30 ∷ 31 ∷ []
   pub strict-now : numbersIn (strictRules m p) ≡ 21 ∷ 22 ∷ 23 ∷ 25 ∷ 26 ∷ 27 ∷ 28 ∷ 29 ∷ 30 ∷ 31 ∷ []
 
--- an answer is no refusal with number 24
-abbrev pub Not24 : {F : Type 0} → Answer F → Type 0
-Not24 said = (x : Rule.Refusal) → said ≡ refused x → ¬ (x .number ≡ 24)
-
--- "The number is never used again": no declared refusal has it, so that no call can answer it, and neither check gives it
+-- "The number is never used again": no kind of refusal that these calls know has it, and none of them answers it: neither check,
+-- nor the run, the report or the making of a view. A room with refusals or answers of its own says the same of these (Exchange),
+-- and `scripts/check-numbers` tells of one that does not.
 pub record NeverUsed : Type 0 where
-  pub declared : (x : Refusal) → ¬ (refusalNumbers x .number ≡ 24)
-  pub plain : (s r : List ℕ) → Not24 (plainVerdict s r)
-  pub strict : (s r : List ℕ) → Not24 (strictVerdict s r)
+  pub forms : NoCaseRetired formNumber
+  pub rules : NoCaseRetired ruleNumber
+  pub runs : NoCaseRetired runNumber
+  pub any : NoCaseRetired (λ (x : Refusal). refusalNumbers x .number)
+  pub plain : (s r : List ℕ) → AnswerNotRetired (plainVerdict s r)
+  pub strict : (s r : List ℕ) → AnswerNotRetired (strictVerdict s r)
+  pub run : (s q : List ℕ) (room : ℕ) → AnswerNotRetired (runAnswer s q room)
+  pub report : (s q : List ℕ) (lent : ℕ) → AnswerNotRetired (reportAnswer s q lent)
+  pub view : (s r : List ℕ) → RefusalNotRetired (viewRefusal s r)

@@ -27,8 +27,9 @@ use Rattle.schedule.specs.Answers
 use Rattle.schedule.specs.Answers.{Answer, accepted, refused}
 use Rattle.schedule.specs.Streams.{WordOrPast, word, past}
 use Rattle.schedule.specs.Exchange
-use Rattle.schedule.specs.Numbers.{ruleNumber, refusalNumbers, verdictNumbers}
+use Rattle.schedule.specs.Numbers.{formNumber, ruleNumber, runNumber, refusalNumbers, verdictNumbers}
 use Rattle.schedule.specs.Numbers.{runNumbers, wordNumbers, wrapNumber, standingNumbers, chosenNumbers}
+use Rattle.schedule.specs.Retired.{NoCaseRetired}
 
 -- a map that another undoes takes no two things to one
 undone-injective : {X Y : Type 0} (f : X → Y) (g : Y → X) → ((x : X) → g (f x) ≡ x)
@@ -174,12 +175,15 @@ chosen-undone (Chosen.Refused why k) = ap (λ (w : WrapRefusal). Chosen.Refused 
 pub refusal-injective : (x y : Refusal) → refusalNumbers x ≡ refusalNumbers y → x ≡ y
 refusal-injective = undone-injective refusalNumbers refusalOf refusal-undone
 
+-- a place, where none matters
+abbrev nowhere : Place
+nowhere = record { a = 0; b = 0 }
+
 -- two rules of one number are one
 pub rule-injective : (x y : RuleRefusal) → ruleNumber x ≡ ruleNumber y → x ≡ y
 rule-injective x y e =
-    let at : Place = record { a = 0; b = 0 } in
-    let same : Refusal.Rule x at ≡ Refusal.Rule y at =
-    refusal-injective (Refusal.Rule x at) (Refusal.Rule y at) (ap (λ (k : ℕ). record { number = k; A = 0; B = 0 }) e) in
+    let same : Refusal.Rule x nowhere ≡ Refusal.Rule y nowhere =
+    refusal-injective (Refusal.Rule x nowhere) (Refusal.Rule y nowhere) (ap (λ (k : ℕ). record { number = k; A = 0; B = 0 }) e) in
     cc
 
 -- a number that none of them has is used by no refusal
@@ -190,9 +194,23 @@ unused number absent x e =
     let same : numbered number at refusals ≡ x = ap (λ k. numbered k at refusals) (sym e) ∙ refusal-undone x in
     absent at (ap (λ (y : Refusal). refusalNumbers y .number) same ∙ e)
 
--- "The number is never used again" (U11 of 02)
-pub never-24 : (x : Refusal) → ¬ (refusalNumbers x .number ≡ 24)
+-- "The number is never used again" (U11 of 02): of every refusal, and of each kind of refusal by itself
+pub never-24 : NoCaseRetired (λ (x : Refusal). refusalNumbers x .number)
 never-24 = unused _ (λ at e. omega (arith, e))
+
+pub forms-never-24 : NoCaseRetired formNumber
+forms-never-24 why = never-24 (Refusal.Form why nowhere)
+
+pub rules-never-24 : NoCaseRetired ruleNumber
+rules-never-24 why = never-24 (Refusal.Rule why nowhere)
+
+pub runs-never-24 : NoCaseRetired runNumber
+runs-never-24 why = never-24 (Refusal.Run why nowhere)
+
+pub wraps-never-24 : NoCaseRetired wrapNumber
+wraps-never-24 WrapRefusal.Wrapper e = omega (arith, e)
+wraps-never-24 WrapRefusal.Series e = omega (arith, e)
+wraps-never-24 WrapRefusal.Copy e = omega (arith, e)
 
 pub verdict-injective : (x y : Verdict) → verdictNumbers x ≡ verdictNumbers y → x ≡ y
 verdict-injective = undone-injective verdictNumbers verdictOf verdict-undone

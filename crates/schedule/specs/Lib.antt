@@ -21,6 +21,7 @@ pub mod Streams
 pub mod Exchange
 pub mod Lines
 pub mod Numbers
+pub mod Retired
 pub mod Cases
 pub mod Starred
 pub mod Mistakes
