@@ -1,23 +1,24 @@
 -- With "release + period" in the place of rule 23's deadline the checks, the run and the report answer as they do, and where
--- threads are released at 0 as with the former deadline.
+-- threads are released at 0 as with the former deadline: all of a page's threads, or one activity's.
 -- Assumes nothing.
-use Prim.Native.Nat.{ℕ, _<_}
-use native.Mathlib.Decide.{ℕ-discrete}
+use Prim.Native.Nat.{ℕ, _≤_, _<_}
+use native.Mathlib.Decide.{decLt, ℕ-discrete}
 use native.Mathlib.Omega.{arith}
 use mathlib.Core.Bool.{Bool, true, false, not, cond}
 use mathlib.Core.List.{List, [], _∷_, _++_}
+use mathlib.Core.Logic.{Iff·rfl}
 use mathlib.Core.Option.{Option, some, none}
 use mathlib.Core.Path.{_≡_, refl, sym, subst, ap, ap₂, _∙_}
 use lib.Dec.{T, eqb, leb, ltb, eqb→eq}
 use lib.IntN.{ℤ, subℕ}
-use lib.ListN.{length, drop}
+use lib.ListN.{length, drop, getD}
 use borrow.Author.Tests.{eq-eqb}
 use Rattle.schedule.specs.declared.ActivityRule.{ActivityRule}
 use Rattle.schedule.specs.declared.RuleRefusal.{RuleRefusal}
 use Rattle.schedule.specs.Bounded.{_⇒_, table}
 use Rattle.schedule.specs.Rule.{Rule, Refusal, break, firstBreak}
 use Rattle.schedule.specs.Model.{Model, model, modelForm, Formed}
-use Rattle.schedule.specs.Timing.{Timing, inTime, deadlineRule}
+use Rattle.schedule.specs.Timing.{Timing, InTime, inTime, deadlineRule}
 use Rattle.schedule.specs.Choice.{Choice, choice, choiceTiming}
 use Rattle.schedule.specs.Plan.{plan, planTiming, planForm}
 use Rattle.schedule.specs.Machine.{machineEnd}
@@ -25,12 +26,14 @@ use Rattle.schedule.specs.Checks.{rule23, ruleOf, rulesOf, plainOrder, strictOr
 use Rattle.schedule.specs.Answers.{Answer, refused, answer, figures, plainChecks, strictChecks, plainVerdict, strictVerdict}
 use Rattle.schedule.specs.Answers.{owedRule, runRules, runChecks, Written, written, lengthNeeded, runAnswer, runBuffer}
 use Rattle.schedule.specs.Report.{dash, reportRow, rowsRule, reportRules, reportAnswer, fills, rowsAfter, reportRows}
-use Rattle.laws.proofs.FirstBreak.{none-iff, break-same, rule-stops, rule-goes-on, _&_}
+use Rattle.laws.proofs.FirstBreak.{Sound, none-iff, break-same, break-some, rule-stops, rule-goes-on, _&_}
 use Rattle.laws.proofs.Formed.{model-says, input-holds}
+use Rattle.laws.proofs.LatenessLaws.{rowsThen, rows-at, rows-beyond}
 use Rattle.laws.proofs.MachineLaws.{table-ext}
 use Rattle.laws.proofs.NumbersLaws.{rule-injective}
 use Rattle.laws.proofs.RuleNumbers.{AllRules, AllNumbers, OfForm, rules-append, model-numbers, plan-numbers, of-form}
-use Rattle.laws.proofs.Sound.{modelForm-sound, rule-number}
+use Rattle.laws.proofs.Sound.{modelForm-sound, runRules-sound, rule-number}
+use Rattle.laws.proofs.Tests.{tests}
 use Rattle.laws.proofs.VerdictLaws.{input-numbers, input-number, report-from-input}
 use Rattle.demands.specs.ByNumber.{answerBy, answerByRules, bufferByNumber}
 use Rattle.demands.specs.Deadline.{
@@ -53,8 +56,13 @@ use Rattle.demands.specs.Deadline.{
   ReleasedAtZero,
   FromRelease,
   SeeNoChange,
+  AlikeAt,
+  ActivityAs,
+  OfThreadAtZero,
+  EachSeesNoChange,
 }
 use Rattle.demands.proofs.RunNumbers.{answer-by-rules, buffer-by-number}
+use Rattle.demands.proofs.BreakAlike.{behind-same}
 
 -- ---- a rule in the place of another
 
@@ -95,6 +103,11 @@ replaced-same rule (x ∷ xs) ys h k =
     by (some y) e ih = rule-stops there others y (stands-place rule x (h .0) ∙ e) ∙ sym (rule-stops x (xs ++ ys) y e)
     by none e ih = rule-goes-on there others (stands-place rule x (h .0) ∙ e) ∙ ih e ∙ sym (rule-goes-on x (xs ++ ys) e)
 
+replaced-append : (rule : Rule) (xs ys : List Rule) → replaced rule (xs ++ ys) ≡ replaced rule xs ++ replaced rule ys
+replaced-append rule [] ys = refl
+replaced-append rule (x ∷ xs) ys =
+    ap (λ (rules : List Rule). cond (eqb (x .number) (rule .number)) rule x ∷ rules) (replaced-append rule xs ys)
+
 -- rules of the records' form stand apart from one of the checks or of the run
 form-stands : (rule : Rule) (rules : List Rule) → AllNumbers OfForm rules → ((k : ℕ) → OfForm k → eqb k (rule .number) ≡ false)
     → AllRules (Stands rule) rules
@@ -102,34 +115,93 @@ form-stands rule [] numbers apart = tt
 form-stands rule (x ∷ xs) numbers apart =
     stands-apart rule x (apart (x .number) (numbers .0)) & form-stands rule xs (numbers .1) apart
 
+-- ---- which answers fill the list, whatever the deadline
+
+-- whether the answer that follows a first break fills it
+abbrev filled : Written → Option Refusal → Bool
+filled w o = fills (answer o w)
+
+-- that of a rule numbered 43 alone does, broken or not
+filled-by-43 : (w : Written) (rule : Rule) → Sound rule → rule .number ≡ 43 → filled w (firstBreak (rule ∷ [])) ≡ true
+unfolding answer firstBreak
+filled-by-43 w rule sound number = by (break rule) refl
+  where
+    by : (o : Option Refusal) → break rule ≡ o → filled w (firstBreak (rule ∷ [])) ≡ true
+    by none e = ap (filled w) (rule-goes-on rule [] e)
+    by (some x) e =
+        ap (filled w) (rule-stops rule [] x e)
+        ∙ eq-eqb (x .number) 43 (omega (arith, number, break-some rule x sound .0 e .numbered))
+
+with-sound : (d : Deadline) (number : ℕ) (m : Model) (timing : Timing) (end : ℕ → ℕ) → Sound (ruleWith d number m timing end)
+unfolding ruleWith
+with-sound d number m timing end a b = simp tests Iff·rfl
+
+-- so the same answers do with every deadline: the rules before 43 hang on none
+fills-same : (d : Deadline) (s q : List ℕ) (lent : ℕ) → fills (reportAnswer s q lent) ≡ fills (reportWith d s q lent)
+unfolding reportAnswer reportRules reportWith runRules rowsRule owedRule deadlineRule ruleWith answer
+fills-same d s q lent =
+    behind-same (filled w) (filled w) (runChecks s q) (replaced late (runChecks s q)) _ (replaced late (rowsRule lent ∷ runRules m c))
+    (sym (replaced-same late [] (runChecks s q) tt (λ _. form-stands late (runChecks s q) (input-numbers s q) (λ k t.
+    of-form k 43 t (omega arith) (omega arith)))))
+    (λ x. refl) (λ _.
+    behind-same (filled w) (filled w) front front _ (late ∷ []) refl (λ x. refl) (λ _.
+    filled-by-43 w _ (runRules-sound m c .1 .0) refl ∙ sym (filled-by-43 w late (with-sound d 43 m (choiceTiming c) _) refl)))
+    ∙ ap (λ (rules : List Rule). filled w (firstBreak rules)) (sym (replaced-append late (runChecks s q) _))
+  where
+    m : Model
+    m = model s
+
+    c : Choice
+    c = choice q
+
+    w : Written
+    w = written m c
+
+    late : Rule
+    late = runRuleWith d m c
+
+    front : List Rule
+    front = rowsRule lent ∷ owedRule m c ∷ []
+
 -- ---- where two deadlines agree
 
--- a deadline is "release + period" for each activity whose thread has a period
+-- a deadline is "release + period" for activity a, if its thread has a period
+abbrev AgreesAt : Deadline → Model → Timing → ℕ → Type 0
+AgreesAt d m timing a = ¬ (timing .period (m .thread a) ≡ 0) → d m timing a ≡ fromRelease m timing a
+
+-- for each activity
 abbrev Agrees : Deadline → Model → Timing → Type 0
-Agrees d m timing =
-    (a : ℕ) → a < m .activities → ¬ (timing .period (m .thread a) ≡ 0) → d m timing a ≡ fromRelease m timing a
+Agrees d m timing = (a : ℕ) → a < m .activities → AgreesAt d m timing a
 
 module _ (d : Deadline) where
-  -- the rule's break is that of the deadline's rule
+  -- there the rule says what the deadline's rule says, and tests it alike
+  alike-at : (number : ℕ) (m : Model) (timing : Timing) (end : ℕ → ℕ) (a : ℕ) → AgreesAt d m timing a
+      → AlikeAt (deadlineRule number m timing end) (ruleWith d number m timing end) a
+  unfolding ruleWith deadlineRule InTime inTime
+  alike-at number m timing end a agrees = record {
+    says = (λ h has. omega (arith, h has, agrees has), λ h has. omega (arith, h has, agrees has));
+    test = elim (ℕ-discrete (timing .period (m .thread a)) 0) [
+      | yes e ↦ rw (eq-eqb (timing .period (m .thread a)) 0 e)
+      | no e ↦ ap (λ x. not (eqb (timing .period (m .thread a)) 0) ⇒ leb (end a) x) (sym (agrees e))
+    ];
+  }
+
+  -- so its break is that rule's
   rule-same : (number : ℕ) (m : Model) (timing : Timing) (end : ℕ → ℕ) → Agrees d m timing
       → break (ruleWith d number m timing end) ≡ break (deadlineRule number m timing end)
-  unfolding ruleWith deadlineRule inTime
+  unfolding ruleWith deadlineRule
   rule-same number m timing end agrees =
       break-same (ruleWith d number m timing end) (deadlineRule number m timing end) refl refl refl (λ a _ l _.
-      elim (ℕ-discrete (timing .period (m .thread a)) 0) [
-        | yes e ↦ rw (eq-eqb (timing .period (m .thread a)) 0 e)
-        | no e ↦
-            ap (λ x. not (eqb (timing .period (m .thread a)) 0) ⇒ leb (end a) x) (agrees a l e)
-      ])
+      sym (alike-at number m timing end a (agrees a l) .test))
 
   -- a row of the report is that of the deadline
-  row-same : (m : Model) (q : Choice) (a : ℕ) → a < m .activities → Agrees d m (choiceTiming q) → reportRow m q a ≡ rowWith d m q a
+  row-same : (m : Model) (q : Choice) (a : ℕ) → AgreesAt d m (choiceTiming q) a → reportRow m q a ≡ rowWith d m q a
   unfolding reportRow rowWith
-  row-same m q a l agrees = elim (ℕ-discrete (q .period (m .thread a)) 0) [
+  row-same m q a agrees = elim (ℕ-discrete (q .period (m .thread a)) 0) [
     | yes e ↦ rw (eq-eqb (q .period (m .thread a)) 0 e)
     | no e ↦
         ap (λ x. cond (eqb (q .period (m .thread a)) 0) dash (subℕ x (machineEnd m (q .release) (q .duration) a)))
-        (sym (agrees a l e))
+        (sym (agrees e))
   ]
 
   -- ---- the checks
@@ -219,18 +291,44 @@ module _ (d : Deadline) where
         after b rows = elim b [ true ↦ rows ++ drop (model s .activities) list | false ↦ list ]
 
         same : fills (reportAnswer s q (length list)) ≡ fills (reportWith d s q (length list))
-        same = ap fills (report-same (length list))
+        same = fills-same d s q (length list)
 
         by : (o : Option Refusal) → firstBreak (runChecks s q) ≡ o
             → after (fills (reportAnswer s q (length list))) (table (model s .activities) (reportRow (model s) (choice q)))
             ≡ after (fills (reportWith d s q (length list))) (table (model s .activities) (rowWith d (model s) (choice q)))
         by none e =
             ap₂ after same (table-ext (model s .activities) _ _ (λ a l.
-            row-same (model s) (choice q) a l (agrees (input-holds s q e))))
+            row-same (model s) (choice q) a (agrees (input-holds s q e) a l)))
         by (some x) e =
             let unfilled = ap fills (report-from-input s q (length list) x e) ∙ input-number s q x e .1 in
             ap (λ b. after b (table (model s .activities) (reportRow (model s) (choice q)))) unfilled
             ∙ sym (ap (λ b. after b (table (model s .activities) (rowWith d (model s) (choice q)))) (sym same ∙ unfilled))
+
+  -- ---- row a of the report's list
+
+  -- filled or not, it is the same where the deadlines agree on activity a
+  row-at : (s q : List ℕ) (list : List ℤ) (a : ℕ) (z : ℤ) → AgreesAt d (model s) (choiceTiming (choice q)) a
+      → getD (reportRows s q list) a z ≡ getD (rowsWith d s q list) a z
+  unfolding reportRows rowsAfter rowsWith
+  row-at s q list a z agrees =
+      ap (λ (b : Bool). getD (after b (reportRow m c)) a z) (fills-same d s q (length list))
+      ∙ by (fills (reportWith d s q (length list)))
+    where
+      m : Model
+      m = model s
+
+      c : Choice
+      c = choice q
+
+      after : Bool → (ℕ → ℤ) → List ℤ
+      after b row = elim b [ true ↦ rowsThen (m .activities) row list | false ↦ list ]
+
+      by : (b : Bool) → getD (after b (reportRow m c)) a z ≡ getD (after b (rowWith d m c)) a z
+      by false = refl
+      by true = elim (decLt a (m .activities)) [
+        | yes l ↦ rows-at z _ _ list a l ∙ row-same m c a agrees ∙ sym (rows-at z _ _ list a l)
+        | no l ↦ rows-beyond z _ _ list a (omega arith) ∙ sym (rows-beyond z _ _ list a (omega arith))
+      ]
 
 -- a deadline that agrees wherever a condition holds gives the answers there
 answers-as : (d : Deadline) (Where : Model → Timing → Type 0)
@@ -244,12 +342,32 @@ answers-as d Where agrees = record {
   rows = λ s q list w. rows-same d s q (agrees (model s) (choiceTiming (choice q)) w) list;
 }
 
+-- and of one activity the rules and the row
+activity-as : (d : Deadline) (Where : Model → Timing → ℕ → Type 0)
+    → ((m : Model) (timing : Timing) (a : ℕ) → Where m timing a → AgreesAt d m timing a) → ActivityAs d Where
+unfolding rule23
+activity-as d Where agrees = record {
+  check = λ m p a w. alike-at d 23 m (planTiming p) (p .end) a (agrees m (planTiming p) a w);
+  run = λ m q a w. alike-at d 43 m (choiceTiming q) _ a (agrees m (choiceTiming q) a w);
+  row = λ s q list a z w. row-at d s q list a z (agrees (model s) (choiceTiming (choice q)) a w);
+}
+
 -- The answers are those with "release + period".
 pub from-release : FromRelease
 from-release = answers-as fromRelease Always (λ m timing _ _ a _ _. refl)
 
--- "Threads released at 0 see no change."
+-- "Threads released at 0 see no change.", where all are, and each by itself
 pub see-no-change : SeeNoChange
 see-no-change =
     answers-as former ReleasedAtZero (λ m timing zero formed a l has.
     omega (arith, zero (m .thread a) (formed .owner a l) has))
+
+pub each-sees-no-change : EachSeesNoChange
+each-sees-no-change = activity-as former OfThreadAtZero (λ m timing a zero has. omega (arith, zero has))
+
+-- The rule with the former deadline is 01's: "a thread with a period has end ≤ that period".
+pub former-is : (number : ℕ) (m : Model) (timing : Timing) (end : ℕ → ℕ) (a : ℕ)
+    → ruleWith former number m timing end .Holds a 0
+    ≡ ((¬ (timing .period (m .thread a) ≡ 0)) → end a ≤ timing .period (m .thread a))
+unfolding ruleWith
+former-is number m timing end a = refl

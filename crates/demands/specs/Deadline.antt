@@ -1,21 +1,23 @@
 -- Any deadline in the place of rule 23's: what the checks, the run and the report answer with it. So it can be said that 23,
--- 43 and the report's rows hang on one deadline, that "Threads released at 0 see no change" (U2 of 02), and what a wrong
--- deadline would answer.
+-- 43 and the report's rows hang on one deadline, that "Threads released at 0 see no change" (U2 of 02), of whole pages and of
+-- each activity, and what a wrong deadline would answer.
 -- Assumes nothing.
 use Prim.Native.Nat.{ℕ, _+_, _≤_, _<_}
 use mathlib.Core.Bool.{true, false, not, cond}
 use mathlib.Core.List.{List, [], _∷_, _++_}
+use mathlib.Core.Logic.{_↔_}
 use mathlib.Core.Path.{_≡_}
 use lib.Dec.{eqb, leb}
 use lib.IntN.{ℤ, subℕ}
-use lib.ListN.{length, drop}
+use lib.ListN.{length, drop, getD}
 use Rattle.schedule.specs.Bounded.{_⇒_, table}
 use Rattle.schedule.specs.Rule.{Rule, firstBreak}
 use Rattle.schedule.specs.Model.{Model, model}
-use Rattle.schedule.specs.Timing.{Timing}
+use Rattle.schedule.specs.Timing.{Timing, deadlineRule}
 use Rattle.schedule.specs.Choice.{Choice, choice, choiceTiming}
-use Rattle.schedule.specs.Plan.{plan, planTiming}
+use Rattle.schedule.specs.Plan.{Plan, plan, planTiming}
 use Rattle.schedule.specs.Machine.{machineEnd}
+use Rattle.schedule.specs.Checks.{rule23}
 use Rattle.schedule.specs.Answers.{Answer, answer, Figures, figures, plainChecks, strictChecks, plainVerdict, strictVerdict}
 use Rattle.schedule.specs.Answers.{runRules, Written, written, runAnswer, runBuffer}
 use Rattle.schedule.specs.Report.{dash, reportRules, reportAnswer, fills, reportRows}
@@ -107,14 +109,45 @@ pub record AnswersAs (d : Deadline) (Where : Model → Timing → Type 0) : Type
 abbrev pub Always : Model → Timing → Type 0
 Always m timing = Unit {0}
 
--- "Threads released at 0": each thread with a period is
+-- thread j is "released at 0", which is asked of a thread with a period alone
+abbrev pub AtZero : Timing → ℕ → Type 0
+AtZero timing j = ¬ (timing .period j ≡ 0) → timing .release j ≡ 0
+
+-- "Threads released at 0": each thread is
 abbrev pub ReleasedAtZero : Model → Timing → Type 0
-ReleasedAtZero m timing = (j : ℕ) → j < m .threads → ¬ (timing .period j ≡ 0) → timing .release j ≡ 0
+ReleasedAtZero m timing = (j : ℕ) → j < m .threads → AtZero timing j
 
 -- Rule 23, 43 and the report's rows take this deadline, and no other.
 abbrev pub FromRelease : Type 0
 FromRelease = AnswersAs fromRelease Always
 
--- "Threads released at 0 see no change."
+-- "Threads released at 0 see no change", where all are.
 abbrev pub SeeNoChange : Type 0
 SeeNoChange = AnswersAs former ReleasedAtZero
+
+-- ---- the same of one activity, whatever the other threads are
+
+-- two rules say one thing of activity a, and test it alike
+pub record AlikeAt (rule rule′ : Rule) (a : ℕ) : Type 0 where
+  pub says : rule .Holds a 0 ↔ rule′ .Holds a 0
+  pub test : rule .test a 0 ≡ rule′ .test a 0
+
+-- Wherever a condition holds of activity a: rule 23 of every plan, and 43 of the run's ends with every choice, say of it what
+-- they say with deadline d; and row a of every lent list, after the report of every two byte strings, is the one with it. Where
+-- the list has no row a, any z stands for it; past the last activity both lists are as they were lent.
+pub record ActivityAs (d : Deadline) (Where : Model → Timing → ℕ → Type 0) : Type 0 where
+  pub check : (m : Model) (p : Plan) (a : ℕ) → Where m (planTiming p) a
+      → AlikeAt (rule23 m p) (ruleWith d 23 m (planTiming p) (p .end)) a
+  pub run : (m : Model) (q : Choice) (a : ℕ) → Where m (choiceTiming q) a
+      → AlikeAt (deadlineRule 43 m (choiceTiming q) (machineEnd m (q .release) (q .duration))) (runRuleWith d m q) a
+  pub row : (s q : List ℕ) (list : List ℤ) (a : ℕ) (z : ℤ) → Where (model s) (choiceTiming (choice q)) a
+      → getD (reportRows s q list) a z ≡ getD (rowsWith d s q list) a z
+
+-- the thread of activity a is "released at 0"
+abbrev pub OfThreadAtZero : Model → Timing → ℕ → Type 0
+OfThreadAtZero m timing a = AtZero timing (m .thread a)
+
+-- "Threads released at 0 see no change", each by itself and whatever the others are: the rule is 01's there, "a thread with a
+-- period has end ≤ that period", and its row of the report the former one.
+abbrev pub EachSeesNoChange : Type 0
+EachSeesNoChange = ActivityAs former OfThreadAtZero
