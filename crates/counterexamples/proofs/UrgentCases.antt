@@ -1,12 +1,13 @@
 -- "Urgent threads don't notice the others" (U3 of 02) on literal models and choices: where something is promised and the words
 -- differ elsewhere, where nothing is promised, and claims that are nearly the request's, each with records on which it would
--- be false. One table with one truth about it; the values are worked out by hand.
+-- be false. Pages of one round, of two rounds with a loop, and of gangs. One table with one truth about it; the values are
+-- worked out by hand.
 -- Assumes nothing.
 use Prim.Native.Nat.{ℕ}
 use mathlib.Core.Bool.{Bool, true, false}
 use mathlib.Core.List.{List, [], _∷_, _++_, map}
 use mathlib.Core.Path.{_≡_, refl}
-use Rattle.schedule.specs.Model.{Model, model}
+use Rattle.schedule.specs.Model.{Model, page, model}
 use Rattle.schedule.specs.Choice.{Choice, choice}
 use Rattle.schedule.specs.Answers.{Answer, Figures}
 use Rattle.schedule.specs.Cases.{every, patch, accepts, refuses, words, run, Saying, verdict, numbers, said}
@@ -17,6 +18,7 @@ use Rattle.counterexamples.proofs.UrgentClaims.{
   requested,
   temporalOnly,
   dataOnly,
+  byRows,
   precededAbove,
   releasesAbove,
   durationsAbove,
@@ -140,6 +142,51 @@ longer-sampling = choose 1 0 0 2 3 1 1
 
 abbrev longer-runs : Ran
 longer-runs = runs (1 ∷ 2 ∷ 2 ∷ 2 ∷ 1 ∷ 4 ∷ 8 ∷ 0 ∷ []) (accepts 7 8 7)
+
+-- c 1, n 2, m 2, H 8, two rounds; no periods, releases 0. Thread 0, sampling: priority 5. Thread 1, logging: priority 1. Activity
+-- 0: sampling, duration 1, loop byte 1: it comes after logging of the round before. Activity 1: logging, duration 1..3.
+abbrev rounds : List ℕ
+rounds =
+    (0 ∷ 0 ∷ 0 ∷ 63 ∷ 2 ∷ 1 ∷ 2 ∷ 2 ∷ 0 ∷ 8 ∷ 2 ∷ [])
+    ++ (0 ∷ 0 ∷ 0 ∷ 0 ∷ 0 ∷ 0 ∷ 0 ∷ 0 ∷ 0 ∷ 5 ∷ [])
+    ++ (0 ∷ 0 ∷ 0 ∷ 0 ∷ 0 ∷ 0 ∷ 0 ∷ 0 ∷ 0 ∷ 1 ∷ [])
+    ++ (0 ∷ 0 ∷ 1 ∷ 0 ∷ 1 ∷ 0 ∷ 0 ∷ 0 ∷ 0 ∷ 0 ∷ 0 ∷ 0 ∷ 0 ∷ 0 ∷ 0 ∷ 1 ∷ [])
+    ++ (1 ∷ 0 ∷ 1 ∷ 0 ∷ 3 ∷ 0 ∷ 0 ∷ 0 ∷ 0 ∷ 0 ∷ 0 ∷ 0 ∷ 0 ∷ 0 ∷ 0 ∷ 255 ∷ [])
+
+-- sampling comes after sampling of the round before
+abbrev after-itself : List ℕ
+after-itself = patch 46 (0 ∷ []) rounds
+
+-- a choice for either, with a duration of logging in round 0; all others last 1 tick
+abbrev logs-for : ℕ → List ℕ
+logs-for d =
+    (0 ∷ 0 ∷ 0 ∷ 31 ∷ 1 ∷ 4 ∷ 4 ∷ [])
+    ++ (0 ∷ 0 ∷ 0 ∷ 0 ∷ 0 ∷ 0 ∷ 0 ∷ 0 ∷ 0 ∷ 0 ∷ 0 ∷ 0 ∷ 0 ∷ 0 ∷ 0 ∷ 0 ∷ [])
+    ++ (0 ∷ 1 ∷ 0 ∷ d ∷ 0 ∷ 1 ∷ 0 ∷ 1 ∷ [])
+
+-- c 3, n 3, m 3, H 8, one round; no periods, releases 0..9, durations 1..9. Thread 0, sampling: priority 7. Thread 1, logging:
+-- priority 1. Thread 2, the spectrum: priority 4. Activity 0: logging. Activity 1: sampling. Activity 2: the spectrum, a gang
+-- of width 3; the others have width 1.
+abbrev gang : List ℕ
+gang =
+    (0 ∷ 0 ∷ 0 ∷ 92 ∷ 3 ∷ 3 ∷ 3 ∷ 3 ∷ 0 ∷ 8 ∷ 1 ∷ [])
+    ++ (0 ∷ 0 ∷ 0 ∷ 0 ∷ 0 ∷ 0 ∷ 0 ∷ 9 ∷ 0 ∷ 7 ∷ [])
+    ++ (0 ∷ 0 ∷ 0 ∷ 0 ∷ 0 ∷ 0 ∷ 0 ∷ 9 ∷ 0 ∷ 1 ∷ [])
+    ++ (0 ∷ 0 ∷ 0 ∷ 0 ∷ 0 ∷ 0 ∷ 0 ∷ 9 ∷ 0 ∷ 4 ∷ [])
+    ++ (1 ∷ 0 ∷ 1 ∷ 0 ∷ 9 ∷ 0 ∷ 0 ∷ 0 ∷ 0 ∷ 0 ∷ 0 ∷ 0 ∷ 0 ∷ 0 ∷ 0 ∷ 255 ∷ 1 ∷ [])
+    ++ (0 ∷ 0 ∷ 1 ∷ 0 ∷ 9 ∷ 0 ∷ 0 ∷ 0 ∷ 0 ∷ 0 ∷ 0 ∷ 0 ∷ 0 ∷ 0 ∷ 0 ∷ 255 ∷ 1 ∷ [])
+    ++ (2 ∷ 0 ∷ 1 ∷ 0 ∷ 9 ∷ 0 ∷ 0 ∷ 0 ∷ 0 ∷ 0 ∷ 0 ∷ 0 ∷ 0 ∷ 0 ∷ 0 ∷ 255 ∷ 3 ∷ [])
+
+-- a core for each of the three
+abbrev no-gang : List ℕ
+no-gang = patch 91 (1 ∷ []) gang
+
+-- a choice for either, with the release and the duration of logging and the duration of sampling; the spectrum lasts 2 ticks
+abbrev beside : ℕ → ℕ → ℕ → List ℕ
+beside r0 d0 d1 =
+    (0 ∷ 0 ∷ 0 ∷ 25 ∷ 1 ∷ 3 ∷ 3 ∷ [])
+    ++ (0 ∷ 0 ∷ 0 ∷ 0 ∷ 0 ∷ r0 ∷ 0 ∷ 0 ∷ 0 ∷ 0 ∷ 0 ∷ 0 ∷ [])
+    ++ (0 ∷ d0 ∷ 0 ∷ d1 ∷ 0 ∷ 2 ∷ [])
 
 abbrev cases : List Case
 cases =
@@ -299,6 +346,61 @@ cases =
       expected =
           says (runs (1 ∷ 2 ∷ 2 ∷ 1 ∷ 4 ∷ 1 ∷ 1 ∷ 8 ∷ []) (accepts 8 8 8))
           (runs (1 ∷ 2 ∷ 2 ∷ 1 ∷ 4 ∷ 4 ∷ 1 ∷ 1 ∷ []) (refuses 42 3 0)) silent fails;
+    }
+    -- two rounds: logging of round 0 precedes sampling of round 1 by the loop byte, and no row has a bit in its masks
+    ∷ record {
+      model-bytes = rounds;
+      P = 5;
+      first = logs-for 1;
+      second = logs-for 3;
+      claim = byRows (page rounds);
+      expected =
+          says (runs (1 ∷ 2 ∷ 4 ∷ 8 ∷ 0 ∷ 0 ∷ 0 ∷ 0 ∷ []) (accepts 4 8 4))
+          (runs (1 ∷ 2 ∷ 2 ∷ 2 ∷ 4 ∷ 8 ∷ 0 ∷ 0 ∷ []) (accepts 6 8 6)) silent fails;
+    }
+    -- sampling of round 0 does, and logging moves alone
+    ∷ record {
+      model-bytes = after-itself;
+      P = 5;
+      first = logs-for 1;
+      second = logs-for 3;
+      claim = everyBit;
+      expected =
+          says (runs (1 ∷ 4 ∷ 2 ∷ 8 ∷ 0 ∷ 0 ∷ 0 ∷ 0 ∷ []) (accepts 4 8 4))
+          (runs (1 ∷ 4 ∷ 2 ∷ 2 ∷ 2 ∷ 8 ∷ 0 ∷ 0 ∷ []) (accepts 6 8 6)) holds fails;
+    }
+    -- logging runs beside sampling, where the gang does not fit, and the gang does not notice it
+    ∷ record {
+      model-bytes = gang;
+      P = 4;
+      first = beside 0 3 2;
+      second = beside 1 1 2;
+      claim = everyBit;
+      expected =
+          says (runs (3 ∷ 3 ∷ 4 ∷ 4 ∷ 1 ∷ 0 ∷ 0 ∷ 0 ∷ []) (accepts 11 24 5))
+          (runs (2 ∷ 3 ∷ 4 ∷ 4 ∷ 0 ∷ 0 ∷ 0 ∷ 0 ∷ []) (accepts 9 24 4)) holds fails;
+    }
+    -- Activity 0, logging, has the number of sampling's thread, and activity 1, which lasts longer, that of logging's. With a
+    -- core for each nobody notices that; a gang that waits until sampling ends does, and logging with it.
+    ∷ record {
+      model-bytes = no-gang;
+      P = 4;
+      first = beside 0 3 2;
+      second = beside 0 3 3;
+      claim = byNumber;
+      expected =
+          says (runs (7 ∷ 7 ∷ 1 ∷ 0 ∷ 0 ∷ 0 ∷ 0 ∷ 0 ∷ []) (accepts 7 24 3))
+          (runs (7 ∷ 7 ∷ 3 ∷ 0 ∷ 0 ∷ 0 ∷ 0 ∷ 0 ∷ []) (accepts 8 24 3)) silent holds;
+    }
+    ∷ record {
+      model-bytes = gang;
+      P = 4;
+      first = beside 0 3 2;
+      second = beside 0 3 3;
+      claim = byNumber;
+      expected =
+          says (runs (3 ∷ 3 ∷ 4 ∷ 4 ∷ 1 ∷ 0 ∷ 0 ∷ 0 ∷ []) (accepts 11 24 5))
+          (runs (3 ∷ 3 ∷ 3 ∷ 4 ∷ 4 ∷ 0 ∷ 0 ∷ 0 ∷ []) (accepts 12 24 5)) silent fails;
     }
     ∷ []
 

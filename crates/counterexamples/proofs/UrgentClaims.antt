@@ -1,14 +1,14 @@
 -- Claims like that of "Urgent threads don't notice the others" (U3 of 02): the request's, with tests of what it asks for and of
 -- what it promises, and others that differ from it in one thing. UrgentCases has records on which each of the others is false.
 -- Assumes nothing.
-use Prim.Native.Nat.{ℕ, _≤_, _<_}
+use Prim.Native.Nat.{ℕ, _%_, _≤_, _<_}
 use mathlib.Core.Bool.{Bool, true, false, _&&_, _||_, not}
 use mathlib.Core.List.{List}
 use mathlib.Core.Logic.{_⊎_, inl, inr, ⊎-elim, _↔_}
 use mathlib.Core.Path.{_≡_, sym, subst}
 use lib.Dec.{T, eqb, leb, ltb}
 use Rattle.schedule.specs.Bounded.{all, _⇒_}
-use Rattle.schedule.specs.Model.{Model, model, priorityOf, temporally, byData}
+use Rattle.schedule.specs.Model.{Model, model, priorityOf, temporally, byData, Page}
 use Rattle.schedule.specs.Choice.{Choice}
 use Rattle.schedule.specs.Answers.{MeetsForm}
 use Rattle.laws.proofs.Tests.{tests}
@@ -80,6 +80,13 @@ temporalOnly = claim temporally atOrAbove atOrAbove atOrAbove atOrAbove priority
 
 abbrev pub dataOnly : Claim
 dataOnly = claim byData atOrAbove atOrAbove atOrAbove atOrAbove priorityOf
+
+-- predecessors by the masks as they stand in the rows of a record's page, of which activity a has row a % m: a loop byte is none
+-- of their bits
+abbrev pub byRows : Page → Claim
+byRows p =
+    let m : ℕ = p .plain .activities in
+    claim (λ _ b a. either (p .plain) (b % m) (a % m)) atOrAbove atOrAbove atOrAbove atOrAbove priorityOf
 
 -- "above" for "at or above", in one place
 abbrev pub precededAbove : Claim
