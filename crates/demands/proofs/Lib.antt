@@ -18,6 +18,7 @@ pub mod Rounds
 pub mod FirstCores
 pub mod FormerRules
 pub mod FormerForm
+pub mod FormerExchange
 pub mod Widths
 pub mod Standing
 pub mod Files

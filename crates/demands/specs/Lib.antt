@@ -9,6 +9,7 @@ pub mod FormerForm
 pub mod FormerMachine
 pub mod FormerChecks
 pub mod FormerAnswers
+pub mod FormerExchange
 pub mod Widths
 pub mod Rounds
 pub mod Exchange

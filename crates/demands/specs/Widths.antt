@@ -1,12 +1,13 @@
--- U7 of 02, "Activities that take several cores", of models whose activities take one core each: "older models have width 1", and
--- all that is answered about a model of width 1 is what was answered before. And what the usage of every model is: "usage, demand
--- 2's figure with it, is counted in core ticks".
+-- U7 of 02, "Activities that take several cores", of models whose activities take one core each: "older models have width 1", all
+-- that is answered about a model of width 1 is what was answered before, and so is what is answered about older models that are
+-- wrapped for exchange. And what the usage of every model is: "usage, demand 2's figure with it, is counted in core ticks".
 -- Assumes nothing.
 use Prim.Native.Nat.{ℕ, _*_, _<_}
 use mathlib.Core.List.{List}
 use mathlib.Core.Logic.{_⊎_}
 use mathlib.Core.Path.{_≡_}
 use lib.IntN.{ℤ}
+use lib.ListN.{length}
 use Rattle.schedule.specs.Bounded.{total}
 use Rattle.schedule.specs.Fields.{field}
 use Rattle.schedule.specs.Rule.{Rule, firstBreak}
@@ -17,10 +18,13 @@ use Rattle.schedule.specs.Checks.{countOf}
 use Rattle.schedule.specs.Answers.{figures, plainVerdict, strictVerdict, runAnswer, runBuffer}
 use Rattle.schedule.specs.Report.{reportAnswer, reportRows}
 use Rattle.schedule.specs.Streams.{viewRefusal, viewWord}
+use Rattle.schedule.specs.Exchange.{wrapped, standing, recordAt}
+use Rattle.schedule.specs.Exchange.{bothOf, pairAnswer, pairPart, pairBytes, recordsOf, fileAnswer, fileBytes}
 use Rattle.demands.specs.FormerForm
 use Rattle.demands.specs.FormerMachine
 use Rattle.demands.specs.FormerChecks
 use Rattle.demands.specs.FormerAnswers
+use Rattle.demands.specs.FormerExchange
 
 -- "width 1": each activity takes one core
 abbrev pub OfWidthOne : Model → Type 0
@@ -37,10 +41,13 @@ OlderModels = (s : List ℕ) → Older s → OfWidthOne (model s)
 abbrev pub SameReading : Type 0
 SameReading = (s : List ℕ) → Older s → page s ≡ FormerForm.page s
 
--- A record that is not of version 3 breaks the form rule that it broke before, at the same place, or none: 57 turns no older model
--- away.
+-- a record is not of version 3: it is an older model's, or it is refused, now as before
+abbrev pub NotOfVersion3 : List ℕ → Type 0
+NotOfVersion3 s = ¬ (field s 4 1 ≡ 3)
+
+-- Such a record breaks the form rule that it broke before, at the same place, or none: 57 turns no older model away.
 abbrev pub SameForm : Type 0
-SameForm = (s : List ℕ) → ¬ (field s 4 1 ≡ 3) → firstBreak (modelForm s) ≡ firstBreak (FormerForm.modelForm s)
+SameForm = (s : List ℕ) → NotOfVersion3 s → firstBreak (modelForm s) ≡ firstBreak (FormerForm.modelForm s)
 
 -- All that is answered about a model's bytes is what was answered before of form rules and of a model that they said: both verdicts,
 -- with their figures or with their number and place; the machine's words at every tick, its starts and ends, and what it owes; the
@@ -71,6 +78,20 @@ OlderModelsAnswerAsBefore = (s : List ℕ) → Older s → AnswersAsBefore s (Fo
 -- of what was answered.
 abbrev pub NoChange : Type 0
 NoChange = (s : List ℕ) → OfWidthOne (model s) → AnswersAsBefore s (modelForm s) (model s)
+
+-- of wrapped records one after the other, no model is of version 3
+abbrev pub NoneOfVersion3 : List (List ℕ) → Type 0
+NoneOfVersion3 ws = (k : ℕ) → k < length ws → NotOfVersion3 (wrapped (recordAt ws k))
+
+-- Of every list of such records, every pair and every file of them, what is answered is what was answered before: which one stands
+-- and where it lies, or the refusal's number and record, and the bytes handed back.
+pub record WrappedAsBefore : Type 0 where
+  pub stands : (ws : List (List ℕ)) → NoneOfVersion3 ws → standing ws ≡ FormerExchange.standing ws
+  pub pair : (x y : List ℕ) → NoneOfVersion3 (bothOf x y) → pairAnswer x y ≡ FormerExchange.pairAnswer x y
+  pub pair-part : (x y : List ℕ) → NoneOfVersion3 (bothOf x y) → pairPart x y ≡ FormerExchange.pairPart x y
+  pub pair-bytes : (x y : List ℕ) → NoneOfVersion3 (bothOf x y) → pairBytes x y ≡ FormerExchange.pairBytes x y
+  pub file : (f : List ℕ) → NoneOfVersion3 (recordsOf f) → fileAnswer f ≡ FormerExchange.fileAnswer f
+  pub file-bytes : (f : List ℕ) → NoneOfVersion3 (recordsOf f) → fileBytes f ≡ FormerExchange.fileBytes f
 
 -- "counted in core ticks": an activity's ticks count as often as it takes cores, of every model and every plan
 abbrev pub InCoreTicks : Type 0
