@@ -12,7 +12,7 @@ use Rattle.schedule.specs.Model.{model}
 use Rattle.schedule.specs.Cases.{every}
 use Rattle.schedule.specs.Starred.{modelS, choiceS, horizon}
 use Rattle.laws.proofs.Tests.{T-all}
-use Rattle.demands.specs.Strict.{Passes}
+use Rattle.demands.specs.AtS.{SomePlanAtS, NoPlanAtH5}
 use Rattle.demands.proofs.Demand2.{model-formed, choice-formed}
 use Rattle.demands.proofs.Demand3.{demand-3}
 
@@ -26,7 +26,7 @@ buffer : List ℕ
 buffer = replicate 61 0
 
 -- a plan record passes for S
-pub some-plan-at-S : (r : List ℕ) × Passes modelS choiceS r
+pub some-plan-at-S : SomePlanAtS
 unfolding every buffer
 some-plan-at-S =
     demand-3 modelS choiceS buffer choice-bytes (model-formed modelS .0 refl) (choice-formed (model modelS) choiceS .0 refl)
@@ -34,7 +34,7 @@ some-plan-at-S =
     (record { length = 61; figures = record { usage = 5; capacity = 8; makespan = 6 } }, refl)
 
 -- none does for S with H 5
-pub no-plan-at-H-5 : (r : List ℕ) → ¬ Passes (horizon 5) choiceS r
+pub no-plan-at-H-5 : NoPlanAtH5
 unfolding every buffer
 no-plan-at-H-5 =
     demand-3 (horizon 5) choiceS buffer choice-bytes (model-formed (horizon 5) .0 refl)

@@ -6,7 +6,7 @@
 use Prim.Native.Nat.{ℕ, _≤_, _<_}
 use native.Mathlib.Omega.{arith}
 use mathlib.Core.List.{List, _++_}
-use mathlib.Core.Logic.{_↔_, Iff·trans, _⊎_, inl, inr}
+use mathlib.Core.Logic.{_↔_, Iff·rfl, Iff·trans, _⊎_, ⊎-elim, inl, inr}
 use mathlib.Core.Option.{some, none}
 use mathlib.Core.Path.{_≡_, refl, sym, _∙_, ap}
 use lib.Dec.{T}
@@ -15,15 +15,15 @@ use borrow.Author.Tests.{ne-eqb}
 use Rattle.schedule.specs.declared.ActivityRule.{ActivityRule}
 use Rattle.schedule.specs.declared.TickRule.{TickRule}
 use Rattle.schedule.specs.declared.RuleRefusal.{RuleRefusal}
-use Rattle.schedule.specs.Rule.{Refusal, firstBreak, Everywhere, AllHold, FirstBroken}
+use Rattle.schedule.specs.Rule.{Rule, Refusal, firstBreak, Everywhere, AllHold, FirstBroken}
 use Rattle.schedule.specs.Model.{Model, model, modelForm}
 use Rattle.schedule.specs.Choice.{choice, choiceForm}
 use Rattle.schedule.specs.Plan.{Plan, plan, planForm, planBytes}
 use Rattle.schedule.specs.Checks.{ruleOf, plainOrder, furtherOrder, strictOrder, plainRules, strictRules}
-use Rattle.schedule.specs.Answers.{accepted, refused, Figures, figures, Written, written, lengthNeeded, machinePlan}
+use Rattle.schedule.specs.Answers.{Answer, answer, accepted, refused, Figures, figures, Written, written, lengthNeeded, machinePlan}
 use Rattle.schedule.specs.Answers.{plainChecks, strictChecks, plainVerdict, strictVerdict, runRules, runChecks}
 use Rattle.schedule.specs.Answers.{from-input, from-buffer, runOutcome, answerOf, runAnswer, bufferAfter, runBuffer}
-use Rattle.laws.proofs.FirstBreak.{none-iff, some-iff, append-some, hold-append, hold-or-broken}
+use Rattle.laws.proofs.FirstBreak.{AllSound, none-iff, some-iff, append-some, hold-append, hold-or-broken}
 use Rattle.laws.proofs.Named.{among, among-front, named, all-named}
 use Rattle.laws.proofs.Sound.{
   modelForm-sound,
@@ -54,7 +54,10 @@ use Rattle.laws.proofs.VerdictLaws.{
 use Rattle.schedule.specs.Keeps.{KeepsPlain, KeepsStrict}
 use Rattle.schedule.specs.Opened.{check-rules}
 use Rattle.demands.specs.ByNumber.{bufferByNumber}
+use Rattle.demands.specs.Demand2.{Decides, Demand2, StrictCheck, OfAnyBytes, OfBothChecks, FormsDecide}
+use Rattle.demands.specs.Runs.{RunsAreAnswered}
 use Rattle.demands.proofs.RunNumbers.{buffer-by-number}
+use Rattle.demands.proofs.Widths.{in-core-ticks}
 
 -- The plain check, of any two byte strings.
 -- It accepts, with these figures, exactly where every form rule of the two records and every rule from 21 to 29 holds,
@@ -309,3 +312,63 @@ pub buffer-run-accepted : (s q buffer : List ℕ)
     ≡ planBytes (machinePlan (model s) (choice q)) ++ drop (lengthNeeded (model s)) buffer
 buffer-run-accepted s q buffer h l holds =
     buffer-accepted s q buffer _ (run-accepted s q (length buffer) _ h l .1 (holds, refl))
+
+-- ---- the statements
+
+-- a check whose answer comes of a list of rules alone decides them, and what they say together
+decided : (said : Answer Figures) (Keeps : Type 0) (rules : List Rule) (counted : Figures) → AllSound rules
+    → said ≡ answer (firstBreak rules) counted → AllHold rules ↔ Keeps → Decides said Keeps rules counted
+decided said Keeps rules counted sound e says =
+    let names : (x : Refusal) → (said ≡ refused x) ↔ FirstBroken rules x = λ x. verdict-refused rules said counted x sound e in
+    record {
+      passes = λ f.
+          let verdict = answer-accepted rules counted f sound in (
+            λ v. let both = verdict .0 (sym e ∙ v) in (says .0 (both .0), both .1),
+            λ k. e ∙ verdict .1 (says .1 (k .0), k .1),
+          );
+      otherwise = λ fails.
+          ⊎-elim (λ (h : AllHold rules). absurd (fails (says .0 h)))
+          (λ (b : (x : Refusal) × FirstBroken rules x). (b .0, (names (b .0) .1 (b .1), b .1)))
+          (hold-or-broken rules sound);
+      names = names;
+    }
+
+-- Demand 2, whole.
+pub demand-2 : Demand2
+demand-2 s r formed well = record {
+  decides = decided _ _ _ _ (plainRules-sound (model s) (plan r)) (plain-past-form s r formed well) (plain-keeps (model s) (plan r));
+  usage = λ f e.
+      ap (λ (x : Figures). x .usage) (sym (plain-accepted s r f .0 e .1)) ∙ in-core-ticks (model s) (plan r);
+}
+
+pub strict-check : StrictCheck
+strict-check s r formed well =
+    decided _ _ _ _ (strictRules-sound (model s) (plan r)) (strict-past-form s r formed well) (strict-keeps (model s) (plan r))
+
+pub of-any-bytes : OfAnyBytes
+unfolding plainVerdict strictVerdict
+of-any-bytes s r = record {
+  plain = decided _ _ _ _ (plainChecks-sound s r) refl Iff·rfl;
+  strict = decided _ _ _ _ (strictChecks-sound s r) refl Iff·rfl;
+}
+
+pub of-both-checks : OfBothChecks
+of-both-checks s r = record { passed = strict-then-plain s r; refused-alike = plain-then-strict s r }
+
+pub forms-decide : FormsDecide
+forms-decide = record {
+  of-model = λ s. record { passes = model-formed s; names = model-refused s };
+  of-choice = λ m q. record { passes = choice-formed m q; names = choice-refused m q };
+  of-plan = λ m r. record { passes = plan-formed m r; names = plan-refused m r };
+}
+
+pub runs-are-answered : RunsAreAnswered
+runs-are-answered s q buffer = record {
+  tried = run-input s q;
+  input = λ x h. (run-input-refused s q (length buffer) x h, buffer-input-refused s q buffer x h);
+  short = λ h l. (run-short-buffer s q (length buffer) h l, buffer-short s q buffer h l);
+  owed-or-late = λ h l x. run-refused s q (length buffer) x h l;
+  zeroed = λ h l x broken. buffer-run-refused s q buffer x h l broken;
+  succeeds = λ h l w. run-accepted s q (length buffer) w h l;
+  writes = buffer-run-accepted s q buffer;
+}

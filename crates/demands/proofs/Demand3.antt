@@ -17,7 +17,7 @@ use Rattle.schedule.specs.Choice.{choice, choiceTiming, choiceForm}
 use Rattle.schedule.specs.Plan.{plan, planTiming, planForm, planBytes}
 use Rattle.schedule.specs.Machine.{machineWord, machineEnd, machineOwes}
 use Rattle.schedule.specs.Keeps.{KeepsStrict}
-use Rattle.schedule.specs.Answers.{accepted, Figures, figures, Written, lengthNeeded, machinePlan}
+use Rattle.schedule.specs.Answers.{accepted, Figures, figures, Written, lengthNeeded, machinePlan, Made}
 use Rattle.schedule.specs.Answers.{strictChecks, owedRule, runRules, runChecks, runAnswer}
 use Rattle.schedule.specs.Numbers.{runNumber}
 use Rattle.laws.proofs.FieldLaws.{field-lt}
@@ -31,7 +31,7 @@ use Rattle.laws.proofs.MachineLaws.{word-lt}
 use Rattle.laws.proofs.MachinePlan.{plan-fits}
 use Rattle.laws.proofs.Sums.{figures-ext}
 use Rattle.laws.proofs.Unique.{Beside, same-word, same-start, same-end, nothing-owed}
-use Rattle.laws.proofs.Exists.{Made, counted, keeps}
+use Rattle.laws.proofs.Exists.{counted, keeps}
 use Rattle.demands.specs.Strict.{HasChoices, PassesWith, Passes, Succeeds, planWritten, SingleStrictPlan, Demand3}
 use Rattle.laws.proofs.Formed.{model-says, Chosen, choice-says}
 use Rattle.demands.proofs.Demand2.{

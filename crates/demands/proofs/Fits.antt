@@ -51,6 +51,7 @@ use Rattle.laws.proofs.LineLengths.{
   late-most,
   row-most,
 }
+use Rattle.demands.specs.Consequences.{TextFits}
 use Rattle.demands.proofs.Demand2.{
   plain-accepted,
   plain-refused,
@@ -341,3 +342,6 @@ gridlate-fits input bytes = by (firstRecord (taken input)) (secondRecord (taken 
               rw (rows-filled v (model s) (choice q) (replicate rowsNeeded (pos 0)) e, rows-at (pos 0) (model s .activities) _ _ a l)
               (row-most (model s) (choice q) a l (formed .horizon .1) (chosen-release-lt q b) (chosen-period-lt q b)),
         ))
+
+pub text-fits : TextFits
+text-fits = record { of-gridcheck = gridcheck-fits; of-gridrun = gridrun-fits; of-gridlate = gridlate-fits }

@@ -21,6 +21,7 @@ use Rattle.schedule.specs.Answers.{
   refused,
   Written,
   machinePlan,
+  Made,
   lengthNeeded,
   runRules,
   runChecks,
@@ -30,13 +31,12 @@ use Rattle.schedule.specs.Answers.{
   PassesTests,
 }
 use Rattle.schedule.specs.Lines.{shown, tickLine, runLines}
-use Rattle.laws.proofs.Exists.{Made}
 use Rattle.laws.proofs.FieldLaws.{chain-ext}
 use Rattle.laws.proofs.Parts.{stands-whole, stands-first}
 use Rattle.laws.proofs.PlanBytes.{ReadsFrom, reads-from}
 use Rattle.laws.proofs.FirstBreak.{hold-append}
 use Rattle.laws.proofs.VerdictLaws.{accepted-is-not-refused}
-use Rattle.demands.specs.Strict.{planWritten}
+use Rattle.demands.specs.Runs.{SuccessHasPassed, PlansAreMade, PageWritten}
 use Rattle.demands.proofs.Demand2.{run-input, run-input-refused, run-short-buffer, run-accepted, buffer-accepted}
 use Rattle.demands.proofs.Demand3.{machine-fits, made, its-plan}
 
@@ -66,9 +66,15 @@ module _ (s q : List ℕ) (room : ℕ) (w : Written) (e : runAnswer s q room ≡
   pub settles : AllHold (runRules (model s) (choice q))
   settles = run-accepted s q room w checked roomy .0 e .0
 
--- the plan that a successful run wrote has the machine's words, starts and ends
-pub written-made : (s q buffer : List ℕ) → Bytes q → (w : Written) → runAnswer s q (length buffer) ≡ accepted w
-    → Made (model s) (choice q .release) (choice q .duration) (plan (planWritten s q buffer w))
+pub success-has-passed : SuccessHasPassed
+success-has-passed s q room w e = record {
+  formed = formed s q room w e;
+  tested = tested s q room w e;
+  roomy = roomy s q room w e;
+  settles = settles s q room w e;
+}
+
+pub written-made : PlansAreMade
 written-made s q buffer bytes w e =
     let form = formed s q (length buffer) w e in
     let test = tested s q (length buffer) w e in
@@ -96,9 +102,7 @@ same-page w p p′ e h =
     (ap (λ (k : ℕ). chain k (λ t. tickLine t (p .word t))) e
     ∙ chain-ext (p′ .horizon) (λ t. tickLine t (p .word t)) (λ t. tickLine t (p′ .word t)) (λ t l. ap (tickLine t) (h t l)))
 
-pub page-written : (s q buffer : List ℕ) → Bytes q
-    → runLines (runAnswer s q (length buffer)) (plan (runBuffer s q buffer))
-    ≡ runLines (runAnswer s q (length buffer)) (machinePlan (model s) (choice q))
+pub page-written : PageWritten
 unfolding runLines
 page-written s q buffer bytes = by (runAnswer s q (length buffer)) refl
   where

@@ -32,6 +32,7 @@ use Rattle.laws.proofs.VerdictLaws.{
   run-verdict,
 }
 use Rattle.demands.specs.ByNumber.{answerBy, answerByRules, zeroing, bufferByNumber}
+use Rattle.demands.specs.Runs.{RunsByNumber}
 
 -- The answer is what the rules alone say.
 pub answer-by-rules : (s q : List ℕ) (room : ℕ) → runAnswer s q room ≡ answerByRules s q room
@@ -107,3 +108,6 @@ buffer-by-number s q buffer = by (runOutcome s q (length buffer)) (run-numbered 
     by (from-buffer x) e = rw e
     by (from-run x) e = rw e
     by (succeeded w) e = refl
+
+pub runs-by-number : RunsByNumber
+runs-by-number s q buffer = record { answer = answer-by-rules s q; buffer-after = buffer-by-number s q buffer }

@@ -1,10 +1,13 @@
 -- That efe(a) is the largest of what the paper lists, with quantifiers. efe itself is that of crate schedule, Checks.
 -- Assumes nothing.
 use Prim.Native.Nat.{ℕ, _+_, _≤_, _<_}
+use mathlib.Core.List.{List}
+use mathlib.Core.Path.{_≡_}
 use lib.Dec.{T}
-use Rattle.schedule.specs.Model.{Model, temporally, byData}
-use Rattle.schedule.specs.Plan.{Plan}
-use Rattle.schedule.specs.Checks.{countOf, efe}
+use Rattle.schedule.specs.Model.{Model, model, temporally, byData}
+use Rattle.schedule.specs.Plan.{Plan, plan}
+use Rattle.schedule.specs.Checks.{countOf, efeFrom, efe}
+use Rattle.schedule.specs.Answers.{MeetsForm}
 
 -- none of the numbers that efe(a) is the largest of is above x
 pub record NoneAbove (m : Model) (p : Plan) (a x : ℕ) : Type 0 where
@@ -19,3 +22,12 @@ pub record NoneAbove (m : Model) (p : Plan) (a x : ℕ) : Type 0 where
 pub record Largest (m : Model) (p : Plan) (a : ℕ) : Type 0 where
   pub none-above : NoneAbove m p a (efe m p a)
   pub least : (x : ℕ) → NoneAbove m p a x → efe m p a ≤ x
+
+-- of every model that meets its form rules, every plan and every activity
+abbrev pub EfeIsLargest : Type 0
+EfeIsLargest = (s r : List ℕ) → MeetsForm s → (a : ℕ) → a < model s .activities → Largest (model s) (plan r) a
+
+-- and it solves the paper's equation there
+abbrev pub EfeSolves : Type 0
+EfeSolves = (s r : List ℕ) → MeetsForm s → (a : ℕ) → a < model s .activities
+    → efe (model s) (plan r) a ≡ efeFrom (model s) (plan r) (efe (model s) (plan r)) a

@@ -1,6 +1,10 @@
+pub mod Demand2
 pub mod Strict
+pub mod AtS
 pub mod Efe
+pub mod Consequences
 pub mod ByNumber
+pub mod Runs
 pub mod Lateness
 pub mod Deadline
 pub mod Rule24

@@ -12,9 +12,10 @@ use Rattle.schedule.specs.Records.{Within}
 use Rattle.schedule.specs.Model.{Model, temporally, byData, Ordered}
 use Rattle.schedule.specs.Timing.{InTime}
 use Rattle.schedule.specs.Plan.{Plan, planTiming, active}
-use Rattle.schedule.specs.Machine.{owes, endOf, ready, before, machineWord, machineStart, machineEnd, machineOwes}
+use Rattle.schedule.specs.Machine.{owes, endOf, ready, before, machineStart, machineEnd, machineOwes}
 use Rattle.schedule.specs.Checks.{countOf, efe, Waiting, coresOf, load, Contends, Window}
 use Rattle.schedule.specs.Keeps.{KeepsStrict}
+use Rattle.schedule.specs.Answers.{Made}
 use Rattle.laws.proofs.Counting.{count-ext, count-stops}
 use Rattle.laws.proofs.Cores.{cores-ext}
 use Rattle.laws.proofs.Selection.{selected, selected-fits, selected-few}
@@ -23,13 +24,6 @@ use Rattle.laws.proofs.MachineLaws.{Ready, ready-sound, at, runs, runs-
 use Rattle.laws.proofs.MachineLaws.{owed-done, stays, Ended, ended}
 use Rattle.laws.proofs.EfeLaws.{efe-release, efe-bound}
 use Rattle.laws.proofs.Windows.{window-span}
-
--- A plan that the machine makes: its words, starts, ends and releases are the machine's.
-pub record Made (m : Model) (release duration : ℕ → ℕ) (p : Plan) : Type 0 where
-  pub words : (t : ℕ) → t < m .horizon → p .word t ≡ machineWord m release duration t
-  pub starts : (a : ℕ) → a < m .activities → p .start a ≡ machineStart m release duration a
-  pub ends : (a : ℕ) → a < m .activities → p .end a ≡ machineEnd m release duration a
-  pub released : (a : ℕ) → a < m .activities → p .release (m .thread a) ≡ release (m .thread a)
 
 module _ (m : Model) (release duration : ℕ → ℕ) (p : Plan) (made : Made m release duration p)
     (ordered : Ordered m) (few : m .activities ≤ 32)

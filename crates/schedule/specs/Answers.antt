@@ -1,6 +1,6 @@
 -- What the checks and the run answer, and what the run leaves in the lent buffer.
 -- Assumes nothing.
-use Prim.Native.Nat.{ℕ, _-_, _*_}
+use Prim.Native.Nat.{ℕ, _-_, _*_, _<_}
 use mathlib.Core.Bool.{cond}
 use mathlib.Core.List.{List, [], _∷_, _++_}
 use mathlib.Core.Option.{Option, some, none}
@@ -67,6 +67,13 @@ machinePlan m q = record {
   end = machineEnd m (q .release) (q .duration);
   word = machineWord m (q .release) (q .duration);
 }
+
+-- a plan that the machine makes: its words, starts and ends are the machine's, and its releases those that it was played with
+pub record Made (m : Model) (release duration : ℕ → ℕ) (p : Plan) : Type 0 where
+  pub words : (t : ℕ) → t < m .horizon → p .word t ≡ machineWord m release duration t
+  pub starts : (a : ℕ) → a < m .activities → p .start a ≡ machineStart m release duration a
+  pub ends : (a : ℕ) → a < m .activities → p .end a ≡ machineEnd m release duration a
+  pub released : (a : ℕ) → a < m .activities → p .release (m .thread a) ≡ release (m .thread a)
 
 -- 42 something owed after tick H − 1; A the lowest such activity
 unfoldable pub owedRule : Model → Choice → Rule
