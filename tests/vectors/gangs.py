@@ -12,6 +12,7 @@ from lateness import NONE
 from records import FREE, S_ACTIVITIES, S_CHOSEN, S_DURATIONS, S_GRID, S_PLAN, S_THREADS
 from records import activity, choice, longer, number, plan, put, record, s_model, thread
 from rounds import NO_LOOP, OWN, OWN_PLAN, check_pages, report_pages, run_pages
+from views import NEVER
 
 
 def page(cores, horizon, rounds, threads, rows, version=3):
@@ -231,6 +232,8 @@ def view():
     views.view("gangs: a plan that breaks 28 by widths has a view", gangs(2, 2, [1], [(0, 1, 2), (0, 1, 1)]),
                plan([FREE], [3, 0]), 0, 3)
     views.view("a page refused by 57", TOO_WIDE, G_PLAN, 0, refused="57 1 0")
+    views.held("gangs: ticks that go back", G, G_PLAN, (4, 2, 0), (4, 2, 5))
+    views.held("a page refused by 57", TOO_WIDE, G_PLAN, (4, 2, 0), NEVER, refused="57 1 0")
 
 
 def report():

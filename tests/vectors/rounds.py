@@ -11,6 +11,7 @@ import views
 from lateness import NONE
 from records import FREE, S_ACTIVITIES, S_CHOSEN, S_DURATIONS, S_GRID, S_PLAN, S_THREADS
 from records import activity, choice, longer, number, plan, put, record, s_model, thread
+from views import NEVER, PAST
 
 NO_LOOP = 255
 
@@ -335,6 +336,9 @@ def view():
                refused="12 1 0")
     for shows, model_bytes, answer in REFUSED:
         views.view(f"a page {shows}", model_bytes, OWN_PLAN, 0, refused=answer)
+    views.held("two rounds: a tick of round 1, one of round 0, the horizon", OWN, OWN_PLAN, (4, 1, 8), (2, 1, PAST))
+    for shows, model_bytes, answer in REFUSED:
+        views.held(f"a page {shows}", model_bytes, OWN_PLAN, (4, 1, 8), NEVER, refused=answer)
 
 
 def listed(rows):

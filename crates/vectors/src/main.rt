@@ -3,14 +3,15 @@
 //
 // data/cases holds how many cases of the checks there are, then for each its model and its plan; then how many cases of
 // the run, and for each its model, its choice and the buffer that is lent; then how many cases of the view, and for each
-// its model, its plan and the tick; then how many cases of the splitter, and for each its input; then how many cases of the
-// report, and for each its model, its choice and how many rows are lent; then how many pairs of wrapped records, and for each
-// the two; then how many files of them, and for each the file. Each record, input and file stands behind its length. These
-// numbers take 4 bytes each, the tick 8, big-endian. For each case a line with its number, then the lines that gridcheck,
-// gridrun or gridlate prints of it; of a run also the buffer afterwards, byte by byte in decimal; of a view what its making
-// answers, and its word, in decimal, or past; of the splitter the bytes of the two records; of a report also the list
-// afterwards; of a pair which one stands and of a file which record is chosen, from which byte on and how many, or the
-// refusal, and the bytes that are handed back.
+// its model, its plan and the tick; then how many cases of a view that is held, and for each its model, its plan and three
+// ticks; then how many cases of the splitter, and for each its input; then how many cases of the report, and for each its
+// model, its choice and how many rows are lent; then how many pairs of wrapped records, and for each the two; then how many
+// files of them, and for each the file. Each record, input and file stands behind its length. These numbers take 4 bytes
+// each, a tick 8, big-endian. For each case a line with its number, then the lines that gridcheck, gridrun or gridlate prints
+// of it; of a run also the buffer afterwards, byte by byte in decimal; of a view what its making answers, and at each tick its
+// word, in decimal, or past; of the splitter the bytes of the two records; of a report also the list afterwards; of a pair
+// which one stands and of a file which record is chosen, from which byte on and how many, or the refusal, and the bytes that
+// are handed back.
 use libc::STDOUT_FILENO;
 use numbers::refusal_numbers;
 use numbers::smaller;
@@ -22,13 +23,17 @@ use schedule::Refusal;
 use schedule::Standing;
 use schedule::WordAt;
 use schedule::WrapRefusal;
+ghost use mathlib.Core.Path.{_≡_};
 ghost use Rattle.io.specs.Counts.{Counts};
+ghost use Rattle.schedule.specs.Numbers.{wordNumbers};
+ghost use Rattle.schedule.specs.Streams.{viewWord};
 
 // The kinds of cases, in the order of the file.
 enum Kind {
     Check,
     Run,
     View,
+    Held,
     Split,
     Report,
     Pair,
@@ -164,6 +169,51 @@ fn next_view(fd: i32) {
     print_word(view::word_at(&model[..m], &plan[..p], t));
 }
 
+// What a view gives at three ticks.
+struct Asked {
+    first: WordAt,
+    second: WordAt,
+    third: WordAt,
+}
+
+// Holds one view over a model and a plan, and asks it three times.
+fn ask(model: &[u8], plan: &[u8], first: usize, second: usize, third: usize) -> Asked
+    ensures { λ r. ⌜ (wordNumbers (r .first) ≡ viewWord (now (model .entry)) (now (plan .entry)) first)
+        × (wordNumbers (r .second) ≡ viewWord (now (model .entry)) (now (plan .entry)) second)
+        × (wordNumbers (r .third) ≡ viewWord (now (model .entry)) (now (plan .entry)) third) ⌝ }
+{
+    let held = view::over(model, plan);
+    Asked {
+        first: view::word(held, first),
+        second: view::word(held, second),
+        third: view::word(held, third),
+    }
+}
+
+// Prints what a view gives at three ticks.
+fn print_words(asked: Asked) {
+    let first = asked.first;
+    let second = asked.second;
+    let third = asked.third;
+    print_word(first);
+    print_word(second);
+    print_word(third);
+}
+
+// Reads the next case of a view that is held and prints what its making answers and what it gives at three ticks.
+fn next_held(fd: i32) {
+    let mut model = [0u8; 1024];
+    let mut plan = [0u8; 17189];
+    let m = next_record(fd, &mut model);
+    let p = next_record(fd, &mut plan);
+    let first = next_tick(fd);
+    let second = next_tick(fd);
+    let third = next_tick(fd);
+    print_making(view::refusal(&model[..m], &plan[..p]));
+    let asked = ask(&model[..m], &plan[..p], first, second, third);
+    print_words(asked);
+}
+
 // Prints the two records of an input.
 fn print_split(input: &[u8]) {
     print_bytes(b"first", streams::first_record(input));
@@ -297,6 +347,7 @@ fn next(fd: i32, kind: Kind) {
         Kind::Check => next_check(fd),
         Kind::Run => next_run(fd),
         Kind::View => next_view(fd),
+        Kind::Held => next_held(fd),
         Kind::Split => next_split(fd),
         Kind::Report => next_report(fd),
         Kind::Pair => next_pair(fd),
@@ -324,6 +375,7 @@ fn main() {
     all(fd, Kind::Check);
     all(fd, Kind::Run);
     all(fd, Kind::View);
+    all(fd, Kind::Held);
     all(fd, Kind::Split);
     all(fd, Kind::Report);
     all(fd, Kind::Pair);
