@@ -1,4 +1,4 @@
--- The part of a plan that is held gives what the view's definition says at each tick, and so does the view that is made of it.
+-- The part of a plan that is held gives what the view's definition says at each tick, and is the one that the making promises.
 -- Assumes nothing.
 use Prim.Native.Nat.{ℕ}
 use native.Mathlib.Omega.{arith}
@@ -19,9 +19,7 @@ use Rattle.laws.proofs.Sound.{modelForm-sound, planForm-sound}
 use Rattle.laws.proofs.PlanForm.{WellFormed, form-says}
 use Rattle.laws.proofs.PlanBytes.{word-behind}
 use Rattle.schedule.specs.Lent.{LiesAt}
-use Rattle.records.specs.Reads.{passNumbers}
-use Rattle.records.specs.declared.Pass.{Pass}
-use Rattle.view.specs.Grid.{heldBytes, heldFrom, viewBytes, gridWord, MadeOver}
+use Rattle.view.specs.Grid.{heldBytes, heldFrom, viewBytes, gridWord, HeldOver}
 
 -- ---- what it gives
 
@@ -59,16 +57,14 @@ module _ (s r : List ℕ) where
 
 -- ---- the making
 
--- what the making answered, and the part of the plan that is held by it, make the view that is promised
-pub made-over : (s : List ℕ) (plan g : RefT (List ℕ)) (p : Pass) → passNumbers p ≡ viewRefusal s (now plan)
-    → now g ≡ heldBytes (passNumbers p) (now plan) → LiesAt plan (heldFrom (passNumbers p) (now plan)) g
-    → MadeOver s plan (record { grid = g; made = p })
+-- the part of the plan that is held by what the making answered is the one that is promised
+pub held-over : (s : List ℕ) (plan g : RefT (List ℕ)) (o : Option Refusal) → o ≡ viewRefusal s (now plan)
+    → now g ≡ heldBytes o (now plan) → LiesAt plan (heldFrom o (now plan)) g → HeldOver s plan g
 unfolding viewBytes
-made-over s plan g p answered held lies =
+held-over s plan g o answered held lies =
     let holds : now g ≡ viewBytes s (now plan) = rw answered at held in
     record {
-      answers = answered;
-      says = λ t. ap (λ (bytes : List ℕ). gridWord bytes t) holds ∙ grid-gives s (now plan) t;
+      gives = λ t. ap (λ (bytes : List ℕ). gridWord bytes t) holds ∙ grid-gives s (now plan) t;
       holds = holds;
       lies = rw answered at lies;
     }

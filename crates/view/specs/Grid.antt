@@ -1,4 +1,4 @@
--- What a held view keeps of a plan's bytes, what any bytes give at a tick, and what is promised of a view that is made.
+-- What a held view keeps of a plan's bytes, what any bytes give at a tick, and what is promised of the part that is held.
 -- Assumes nothing.
 use Prim.Native.Nat.{ℕ}
 use mathlib.Core.Bool.{cond}
@@ -11,8 +11,6 @@ use Rattle.schedule.specs.Rule.{Refusal}
 use Rattle.schedule.specs.Lent.{LiesAt}
 use Rattle.schedule.specs.Plan.{planGrid, planGridAt, wordIn, ticksIn}
 use Rattle.schedule.specs.Streams.{WordOrPast, word, past, viewRefusal, viewWord}
-use Rattle.records.specs.Reads.{passNumbers}
-use Rattle.view.specs.declared.View.{View}
 
 -- the bytes held by what the making answered: the plan's words, and none where it is refused
 unfoldable pub heldBytes : Option Refusal → List ℕ → List ℕ
@@ -32,16 +30,10 @@ viewBytes s r = heldBytes (viewRefusal s r) r
 unfoldable pub gridWord : List ℕ → ℕ → WordOrPast
 gridWord g t = cond (ltb t (ticksIn g)) (word (wordIn g t)) past
 
--- what a view gives at a tick
-abbrev pub gives : View → ℕ → WordOrPast
-gives v t = gridWord (now (v .grid)) t
-
--- A view that is made over a model's and a plan's bytes, which lie in a lent slice.
-pub record MadeOver (s : List ℕ) (plan : RefT (List ℕ)) (v : View) : Type 0 where
-  -- what the making answers: "refused with the number, A and B that the check gives", or not
-  pub answers : passNumbers (v .made) ≡ viewRefusal s (now plan)
+-- The part that is held by a view made over a model's bytes and a plan, which lies in a lent slice.
+pub record HeldOver (s : List ℕ) (plan : RefT (List ℕ)) (grid : RefT (List ℕ)) : Type 0 where
   -- what it gives at every tick, whenever and however often it is asked
-  pub says : (t : ℕ) → gives v t ≡ viewWord s (now plan) t
+  pub gives : (t : ℕ) → gridWord (now grid) t ≡ viewWord s (now plan) t
   -- "a struct over the plan's grid slice": what it holds, and that it lies in the plan
-  pub holds : now (v .grid) ≡ viewBytes s (now plan)
-  pub lies : LiesAt plan (heldFrom (viewRefusal s (now plan)) (now plan)) (v .grid)
+  pub holds : now grid ≡ viewBytes s (now plan)
+  pub lies : LiesAt plan (heldFrom (viewRefusal s (now plan)) (now plan)) grid

@@ -9,7 +9,7 @@ ghost use Rattle.schedule.specs.Streams.{viewRefusal, viewWord};
 ghost use Rattle.schedule.specs.Numbers.{wordNumbers};
 ghost use Rattle.records.specs.Reads.{passNumbers};
 ghost use Rattle.schedule.specs.Lent.{LiesAt};
-ghost use Rattle.view.specs.Grid.{heldBytes, heldFrom, gridWord, gives, MadeOver};
+ghost use Rattle.view.specs.Grid.{heldBytes, heldFrom, gridWord, HeldOver};
 
 // "a struct over the plan's grid slice", and what its making answered.
 pub struct View<'a> {
@@ -60,7 +60,8 @@ fn word_in(grid: &[u8], t: usize) -> WordAt
 
 // The making: refused or not, it leaves a view, which may be held and asked at any ticks.
 pub fn over<'a>(model: &[u8], plan: &'a [u8]) -> View<'a>
-    ensures { λ r. ⌜ MadeOver (now (model .entry)) (plan .entry) r ⌝ }
+    ensures { λ r. ⌜ (passNumbers (r .made) ≡ viewRefusal (now (model .entry)) (now (plan .entry)))
+        × HeldOver (now (model .entry)) (plan .entry) (r .grid) ⌝ }
 {
     let made = refusal(model, plan);
     View {
@@ -71,7 +72,7 @@ pub fn over<'a>(model: &[u8], plan: &'a [u8]) -> View<'a>
 
 // "a thin call for the word at a tick": of every view, also one that no making made.
 pub fn word<'a>(view: View<'a>, t: usize) -> WordAt
-    ensures { λ r. ⌜ wordNumbers r ≡ gives (view .entry) t ⌝ }
+    ensures { λ r. ⌜ wordNumbers r ≡ gridWord (now (view .entry .grid)) t ⌝ }
 {
     word_in(view.grid, t)
 }

@@ -45,12 +45,13 @@ use denote.Triple.Walked.{says, Stays, stay-none, stay-none-slice, walkOf, goes-
 use denote.Triple.Walked.{Walks, ends-at, walked, walk-meets}
 use denote.Exit.{yes}
 use denote.Triple.Clauses.{ensured, lasts}
-use Rattle.schedule.specs.Streams.{viewWord}
+use Rattle.schedule.specs.Streams.{viewRefusal, viewWord}
 use Rattle.schedule.specs.Numbers.{wordNumbers}
 use Rattle.schedule.specs.declared.WordAt.{WordAt}
 use Rattle.schedule.proofs.WordAt as S
 use Rattle.schedule.proofs.WordAt.Laws as S′
-use Rattle.view.specs.Grid.{gives, MadeOver}
+use Rattle.records.specs.Reads.{passNumbers}
+use Rattle.view.specs.Grid.{gridWord, HeldOver}
 use Rattle.view.specs.declared.View.{View}
 use Rattle.view.proofs.View as T
 use Rattle.view.proofs.View.Laws as T′
@@ -148,7 +149,7 @@ module _
   OverEnsured d = ensured 𝓤 H A over.ended (over.clauses 𝓤 H A mem run) κs (s, (r, tt)) tt d
 
   abbrev Made : View → Type 0
-  Made d = MadeOver (now s) r d
+  Made d = (passNumbers (d .made) ≡ viewRefusal (now s) (now r)) × HeldOver (now s) r (d .grid)
 
   over-said : (d : View) → ent 𝓤 (OverEnsured d) (fact 𝓤 (Made d))
   over-said d = exE 𝓤 _ (λ ws. snd∗ 𝓤 (sem 𝓤 H A (lasts over.ended κs (s, (r, tt)) ws)) (fact 𝓤 (Made d)))
@@ -181,7 +182,7 @@ module _
     WordEnsured x = ensured 𝓤 H A word.ended (word.clauses 𝓤 H A mem run) (κ′, tt) (d, (t, tt)) tt x
 
     abbrev Found : WordAt → Type 0
-    Found x = wordNumbers x ≡ gives d t
+    Found x = wordNumbers x ≡ gridWord (now (d .grid)) t
 
     word-said : (x : WordAt) → ent 𝓤 (WordEnsured x) (fact 𝓤 (Found x))
     word-said x =
@@ -203,7 +204,7 @@ module _
         await k tt $ pick k (λ x.
         split k $ move k (1 ∷ []) $ use1 W (raw (fact 𝓤 (Found x))) (word-said x) $ heard k (Found x) (λ found.
         split k $ move k (1 ∷ []) $ facts k S.the-row (Is S.the-row) (shows 𝓤 H A S.the-row) x (u′ ∷ []) (λ is.
-        move k (1 ∷ []) $ after u′ x (found ∙ made .says t) is))))
+        move k (1 ∷ []) $ after u′ x (found ∙ made .1 .gives t) is))))
 
   -- the function, at the ticks t₁, t₂ and t₃
   module _

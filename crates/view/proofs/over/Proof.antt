@@ -53,7 +53,7 @@ use Rattle.records.proofs.Pass as P
 use Rattle.records.proofs.Pass.Laws as P′
 use Rattle.view.specs.Grid.{heldBytes, heldFrom}
 use Rattle.view.specs.declared.View.{View}
-use Rattle.view.proofs.HeldLaws.{made-over}
+use Rattle.view.proofs.HeldLaws.{held-over}
 use Rattle.view.proofs.View as T
 use Rattle.view.proofs.View.Laws as T′
 use Rattle.view.proofs.refusal as refusal
@@ -228,7 +228,7 @@ module _
           qed W (‵ OwnG ∷ Token ∷ Rest ∷ []) ∵
           suffices ! _
           (ends-at 𝓤 H A over.ended stayed (over.clauses 𝓤 H A mem run) W here mach made (tt, (tt, tt)) (tt, (tt, tt))) $
-          says ! (made-over (now s) r g p e (e′ .0) (e′ .1)) $
+          says ! (e, held-over (now s) r g (passNumbers p) e (e′ .0) (e′ .1)) $
           move ! (2 ∷ []) $ split ! $ move ! (1 ∷ []) $ split ! $ move ! (0 ∷ 4 ∷ []) $ join ! $ frame ! $
           -- [what s and r own; what p owns; what g owns]
           split ! $ nothing ! $ move ! (2 ∷ 0 ∷ []) $ fjoin ! $ move ! (1 ∷ 0 ∷ []) $ fjoin ! $ frame ! $

@@ -43,12 +43,13 @@ use denote.Triple.Walked.{says, Stays, stay-none, stay-none-slice, walkOf, goes-
 use denote.Triple.Walked.{Walks, ends-at, walked, walk-meets}
 use denote.Exit.{yes}
 use denote.Triple.Clauses.{ensured, lasts}
-use Rattle.schedule.specs.Streams.{viewWord}
+use Rattle.schedule.specs.Streams.{viewRefusal, viewWord}
 use Rattle.schedule.specs.Numbers.{wordNumbers}
 use Rattle.schedule.specs.declared.WordAt.{WordAt}
 use Rattle.schedule.proofs.WordAt as S
 use Rattle.schedule.proofs.WordAt.Laws as S′
-use Rattle.view.specs.Grid.{gives, MadeOver}
+use Rattle.records.specs.Reads.{passNumbers}
+use Rattle.view.specs.Grid.{gridWord, HeldOver}
 use Rattle.view.specs.declared.View.{View}
 use Rattle.view.proofs.View as T
 use Rattle.view.proofs.View.Laws as T′
@@ -162,7 +163,7 @@ module _
   OverEnsured d = ensured 𝓤 H A over.ended (over.clauses 𝓤 H A mem run) κs (s, (r, tt)) tt d
 
   abbrev Made : View → Type 0
-  Made d = MadeOver (now s) r d
+  Made d = (passNumbers (d .made) ≡ viewRefusal (now s) (now r)) × HeldOver (now s) r (d .grid)
 
   over-said : (d : View) → ent 𝓤 (OverEnsured d) (fact 𝓤 (Made d))
   over-said d = exE 𝓤 _ (λ ws. snd∗ 𝓤 (sem 𝓤 H A (lasts over.ended κs (s, (r, tt)) ws)) (fact 𝓤 (Made d)))
@@ -191,7 +192,7 @@ module _
     WordEnsured x = ensured 𝓤 H A word.ended (word.clauses 𝓤 H A mem run) (κ′, tt) (d, (t, tt)) tt x
 
     abbrev Found : WordAt → Type 0
-    Found x = wordNumbers x ≡ gives d t
+    Found x = wordNumbers x ≡ gridWord (now (d .grid)) t
 
     word-said : (x : WordAt) → ent 𝓤 (WordEnsured x) (fact 𝓤 (Found x))
     word-said x =
@@ -252,7 +253,7 @@ module _
         forget ! 4 refl $ forget ! 6 refl $ forget ! 8 refl $ forget ! 10 refl $ forget ! 12 refl $
         move ! (12 ∷ 13 ∷ []) $ free1 ! $ move ! (10 ∷ 11 ∷ []) $ free1 ! $ move ! (8 ∷ 9 ∷ []) $ free1 ! $
         move ! (6 ∷ 7 ∷ []) $ free1 ! $ move ! (4 ∷ 5 ∷ []) $ free1 ! $ free0 ! $
-        by ! (exits x u′ (e′ ∙ e .says t)))))))))))))))
+        by ! (exits x u′ (e′ ∙ e .1 .gives t)))))))))))))))
 
 module _
     {M : Type 1} (𝓤 : URA M) (H : Heap 𝓤) (A : Atoms 𝓤) (W : Given 𝓤 H A)
