@@ -198,7 +198,7 @@ pub fn is_dash(figure: i32) -> bool
 }
 
 // A hexadecimal digit, in the order and with the numbers of the ASCII chart (U5 of 02). A number above 15 gets the digit of its
-// remainder by 16, so the last line takes 15 and nothing else.
+// remainder by 16, which is at most 15: the last line goes on to 255 because a match on a byte has to take every byte.
 pub fn hex_digit(d: u8) -> u8
     ensures { λ r. ⌜ r ≡ hexDigit (d % 16) ⌝ }
 {
@@ -218,6 +218,6 @@ pub fn hex_digit(d: u8) -> u8
         12 => 99, // c
         13 => 100, // d
         14 => 101, // e
-        _ => 102, // f
+        15..=255 => 102, // f
     }
 }
