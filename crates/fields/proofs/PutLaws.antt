@@ -219,11 +219,11 @@ put-last at k v l h =
     last = v % 256 ∷ []
 
 -- one byte of the j that are left is written
-pub put-step : (at j v : ℕ) (l : List ℕ) → 0 < j → at + j ≤ length l
-    → put at (bytes (j - 1) (v / 256)) (set l (at + (j - 1)) (v % 256)) ≡ put at (bytes j v) l
-put-step at j v l p h =
+pub put-step : (at j v : ℕ) (l : List ℕ) {byte : ℕ} → byte ≡ v % 256 → 0 < j → at + j ≤ length l
+    → put at (bytes (j - 1) (v / 256)) (set l (at + (j - 1)) byte) ≡ put at (bytes j v) l
+put-step at j v l b p h =
     let e : (j - 1) + 1 ≡ j = omega arith in
-    put-last at (j - 1) v l (omega arith) ∙ ap (λ (n : ℕ). put at (bytes n v) l) e
+    rw b (put-last at (j - 1) v l (omega arith)) ∙ ap (λ (n : ℕ). put at (bytes n v) l) e
 
 -- none is left
 pub put-end : (at j v : ℕ) (l : List ℕ) → j ≤ 0 → l ≡ put at (bytes j v) l

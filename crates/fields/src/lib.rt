@@ -1,7 +1,7 @@
 // "Multi-byte fields are big-endian and unsigned": fields of 1, 2 and 4 bytes, read from a slice and written into one.
 // Every offset is answered: a byte past the end reads as 0, and a field that does not fit whole is not written.
 ghost use mathlib.Core.Path.{_≡_};
-ghost use Prim.Native.Nat.{_+_, _-_, _*_, _≤_, _<_};
+ghost use Prim.Native.Nat.{_+_, _-_, _*_, _%_, _≤_, _<_};
 ghost use lib.ListN.{length, getD};
 ghost use Rattle.schedule.specs.Fields.{field, bytes};
 ghost use Rattle.fields.specs.Put.{put};
@@ -88,6 +88,13 @@ pub fn be32(s: &[u8], at: usize) -> u32
 
 // ---- writing
 
+// A number's last byte: its lowest 8 bits.
+fn last_byte(v: u32) -> u8
+    ensures { λ r. ⌜ r ≡ v % 256 ⌝ }
+{
+    (v & 255) as u8
+}
+
 // The k last bytes of a number, written from the last back to the first.
 fn fill(out: &mut [u8], at: usize, k: usize, v: u32)
     requires { ⌜ at + k ≤ length (now out) ⌝ }
@@ -97,7 +104,7 @@ fn fill(out: &mut [u8], at: usize, k: usize, v: u32)
     let mut rest = v;
     while 0 < j {
         j -= 1;
-        out[at + j] = (rest % 256) as u8;
+        out[at + j] = last_byte(rest);
         rest = rest >> 8;
     }
 }

@@ -3,6 +3,7 @@
 -- Assumes nothing.
 use Prim.Native.Nat.{_≤_}
 use native.Mathlib.Omega.{arith}
+use borrow.Author.Needs.{needs}
 use mathlib.Core.Path.{_≡_, refl, _∙_}
 use lib.ListN.{length, length-set}
 use Rattle.schedule.specs.Fields.{bytes}
@@ -24,8 +25,8 @@ loop-holds c = (refl, omega arith, refl)
 sub-j : tie.Need-sub-j Inv-loop μ-loop
 sub-j c = omega arith
 
-cast-out : tie.Need-cast-out Inv-loop μ-loop
-cast-out c = omega arith
+last-byte-requires : tie.Need-last-byte-requires Inv-loop μ-loop
+last-byte-requires c κs = search needs
 
 add-out : tie.Need-add-out Inv-loop μ-loop
 add-out c = omega arith
@@ -38,11 +39,12 @@ loop-less c = omega arith
 
 loop-again : tie.Need-loop-again Inv-loop μ-loop
 loop-again c =
-    let inv = c .before .loop .inv in (
-      simp length-set (inv .0),
+    let at-loop = c .before .before in
+    let x = at-loop .before .before .args in
+    let l = at-loop .loop in (
+      simp length-set (l .inv .0),
       omega arith,
-      put-step (c .before .before .args .at) (c .before .loop .j) (c .before .loop .rest) (c .before .loop .out) (omega arith)
-          (omega arith) ∙ inv .2,
+      put-step (x .at) (l .j) (l .rest) (l .out) (c .last-byte .ensures) (omega arith) (omega arith) ∙ l .inv .2,
     )
 
 same-length : tie.Need-same-length Inv-loop μ-loop
@@ -50,8 +52,10 @@ same-length c = c .before .loop .inv .0
 
 returns : tie.Need-returns Inv-loop μ-loop
 returns c =
-    put-end (c .before .before .args .at) (c .before .loop .j) (c .before .loop .rest) (c .before .loop .out) (omega arith)
-    ∙ c .before .loop .inv .2
+    let at-loop = c .before in
+    let x = at-loop .before .before .args in
+    let l = at-loop .loop in
+    put-end (x .at) (l .j) (l .rest) (l .out) (omega arith) ∙ l .inv .2
 
 pub fill-spec : {M : Type 1} → statement M
 fill-spec =
@@ -61,7 +65,7 @@ fill-spec =
     μ-loop
     loop-holds
     sub-j
-    cast-out
+    last-byte-requires
     add-out
     slice-write-out
     loop-less
