@@ -1,8 +1,8 @@
 -- Text stored at a position: parts stored one behind the other are stored as one, from the front or from the back; and
 -- text that is stored at 0 is printed.
 -- Assumes nothing.
-use Prim.Native.Nat.{ℕ, zero, suc, _+_, _-_, _/_, _%_, _≤_, _<_}
-use native.Mathlib.Nat.{zero-add, add-zero, add-suc, suc-add, mod-eq-of-lt}
+use Prim.Native.Nat.{ℕ, suc, _+_, _-_, _*_, _/_, _%_, _^_, _≤_, _<_}
+use native.Mathlib.Nat.{zero-add, add-zero, add-assoc, add-suc, suc-add}
 use native.Mathlib.Numerals.{add-one}
 use native.Mathlib.Omega.{arith}
 use mathlib.Core.List.{List, [], _∷_, _++_}
@@ -10,10 +10,11 @@ use mathlib.Core.Path.{_≡_, refl, sym, ap, _∙_}
 use lib.ListN.{length, getD, set, drop, length-append, drop-of-length-le}
 use lib.Seq.{sets, sets-eq, drop-cons, set-comm}
 use borrow.Author.Tests.{le-leb, lt-leb}
-use Rattle.schedule.specs.Lines.{hexDigit}
+use Rattle.schedule.specs.Lines.{decimal, hex, hexDigit}
+use Rattle.laws.proofs.LineLengths.{length-large}
 use Rattle.text.specs.Printed.{leaves, printed}
-use Rattle.text.specs.Appended.{Appended, inBase}
-use Rattle.text.proofs.DigitLaws.{length-inBase, inBase-last, digit-lt}
+use Rattle.text.specs.Appended.{Appended}
+use Rattle.text.proofs.DigitLaws.{firstDigits, first-next, first-all, decimal-one, decimal-more}
 
 -- ---- stores
 
@@ -60,26 +61,27 @@ module _ (s out : List ℕ) (at i : ℕ) where
   copy-done old h l e =
       record { moved = omega arith; stored = rw (drop-of-length-le s {i = i} l) at e }
 
--- ---- digits stored from the last to the first, of which i are left
+-- ---- a word's digits stored from the first to the last, of which i are passed
 
-module _ (base rest : ℕ) (out : List ℕ) (at i : ℕ) where
-  pub digits-next : 0 < base → base ≤ 16 → 0 < i
-      → sets (set out (at + (i - 1)) (hexDigit (rest % base % 16))) at (inBase base (i - 1) (rest / base))
-      ≡ sets out at (inBase base i rest)
-  digits-next p m h =
-      simp (
-        mod-eq-of-lt (digit-lt rest base p m),
-        inBase-last base i rest h,
-        sets-last (inBase base (i - 1) (rest / base)) (hexDigit (rest % base)) out at,
-        length-inBase base (i - 1) (rest / base),
-      )
+module _ (word at i : ℕ) (old out : List ℕ) (passed : Appended at (firstDigits word i) old (at + i) out) where
+  pub hex-next : {d : ℕ} → d ≡ hexDigit (word / 2 ^ (28 - 4 * i) % 16) → i < 8
+      → Appended at (firstDigits word (i + 1)) old (at + (i + 1)) (set out (at + i) d)
+  hex-next {d} e h = rw (first-next word i h, ← e, ← add-assoc at i 1) (appended-both passed (appended-byte (at + i) d out))
 
-pub digits-done : (base rest : ℕ) (out old : List ℕ) (at k n i : ℕ) → i ≤ 0
-    → sets out at (inBase base i rest) ≡ sets old at (inBase base k n) → Appended at (inBase base k n) old (at + k) out
-unfolding inBase
-digits-done base rest out old at k n zero h e =
-    record { moved = ap (λ (j : ℕ). at + j) (sym (length-inBase base k n)); stored = e }
-digits-done base rest out old at k n (suc i) h e = absurd (omega arith)
+  pub hex-done : i ≡ 8 → Appended at (hex 8 word) old (at + 8) out
+  hex-done e = rw (first-all word i e, e) at passed
+
+-- ---- a number's decimal digits stored from the last to the first, of which those of the rest are left
+
+module _ (rest at : ℕ) (out : List ℕ) where
+  pub decimal-next : {d : ℕ} → d ≡ hexDigit (rest % 10 % 16) → (i : ℕ) → i + 1 ≡ length (decimal rest) → 10 ≤ rest
+      → sets (set out (at + i) d) at (decimal (rest / 10)) ≡ sets out at (decimal rest)
+  decimal-next e i l h =
+      let before : i ≡ length (decimal (rest / 10)) = omega (arith, length-large rest h) in
+      rw (decimal-more rest h, e, before, sets-last)
+
+  pub decimal-done : {d : ℕ} → d ≡ hexDigit (rest % 16) → rest < 10 → set out at d ≡ sets out at (decimal rest)
+  decimal-done e h = rw (e, decimal-one rest h)
 
 -- ---- printed
 

@@ -4,26 +4,20 @@ use Prim.Native.Nat.{ℕ, zero, suc, _+_, _≤_, _<_}
 use native.Mathlib.Numerals.{add-one}
 use native.Mathlib.Omega.{arith}
 use mathlib.Core.List.{List, [], _∷_, _++_, append-assoc}
-use mathlib.Core.Path.{_≡_, refl, sym, ap, _∙_}
+use mathlib.Core.Path.{_≡_, refl, ap, _∙_}
 use lib.ListN.{length, length-append}
 use Rattle.schedule.specs.Answers
 use Rattle.schedule.specs.Answers.{Answer, accepted, refused}
 use Rattle.schedule.specs.Bounded.{chain, total}
 use Rattle.schedule.specs.Plan.{plan}
-use Rattle.schedule.specs.Lines.{decimal, three, shown, checkLines, tickLine, runLines}
+use Rattle.schedule.specs.Lines.{decimal, hex, three, shown, checkLines, tickLine, runLines}
 use Rattle.laws.proofs.Tests.{up-to}
 use Rattle.laws.proofs.LineLengths.{length-tick}
 use Rattle.text.specs.declared.Said.{Said}
 use Rattle.text.specs.Said.{verdictSaid, runSaid, plainName, strictName, runName, verdictWord, line}
-use Rattle.text.specs.Appended.{inBase, number, ticksOf, wordOf, tickText, tickLength}
-use Rattle.text.proofs.DigitLaws.{hex-inBase, decimal-inBase}
+use Rattle.text.specs.Appended.{number, ticksOf, wordOf, tickText, tickLength}
 
 -- ---- numbers
-
-pub number-parts : (n end k : ℕ) → k ≡ length (decimal n) → number n end ≡ inBase 10 k n ++ (end ∷ [])
-unfolding number
-number-parts n end k e =
-    ap (λ (l : List ℕ). l ++ (end ∷ [])) (sym (decimal-inBase n) ∙ ap (λ (j : ℕ). inBase 10 j n) (sym e))
 
 pub length-number : (n end : ℕ) → length (number n end) ≡ length (decimal n) + 1
 unfolding number
@@ -53,9 +47,9 @@ check-parts plain strict e d = simp (e, d, ← shown-said)
 
 -- ---- ticks
 
-pub tick-parts : (t w : ℕ) → tickLine t w ≡ number t 32 ++ (inBase 16 8 w ++ (10 ∷ []))
+pub tick-parts : (t w : ℕ) → tickLine t w ≡ number t 32 ++ (hex 8 w ++ (10 ∷ []))
 unfolding tickLine number
-tick-parts t w = simp (append-assoc, hex-inBase)
+tick-parts t w = simp append-assoc
 
 pub chain-none : (f : ℕ → List ℕ) → chain 0 f ≡ []
 unfolding chain

@@ -1,23 +1,18 @@
 -- Writing at a position: what a private writer answers and leaves, and the parts of a line that it writes.
 -- Assumes nothing.
-use Prim.Native.Nat.{ℕ, zero, suc, _+_, _/_, _%_}
+use Prim.Native.Nat.{ℕ, _+_}
 use mathlib.Core.List.{List, [], _∷_, _++_}
 use mathlib.Core.Path.{_≡_}
 use lib.ListN.{length}
 use lib.Seq.{sets}
 use Rattle.schedule.specs.Answers.{Answer, accepted, refused, Written}
 use Rattle.schedule.specs.Plan.{plan}
-use Rattle.schedule.specs.Lines.{decimal, hexDigit, tickLine}
+use Rattle.schedule.specs.Lines.{decimal, tickLine}
 
 -- the text stored from the position on, and the position behind it
 pub record Appended (at : ℕ) (text old : List ℕ) (next : ℕ) (new : List ℕ) : Type 0 where
   pub moved : next ≡ at + length text
   pub stored : new ≡ sets old at text
-
--- the last k digits of a number in a base
-unfoldable pub inBase : ℕ → ℕ → ℕ → List ℕ
-inBase base zero n = []
-inBase base (suc k) n = inBase base k (n / base) ++ (hexDigit (n % base) ∷ [])
 
 -- a number in decimal, and the byte that ends it
 unfoldable pub number : ℕ → ℕ → List ℕ

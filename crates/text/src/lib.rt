@@ -6,15 +6,15 @@ use schedule::Refusal;
 use schedule::RunVerdict;
 use schedule::Verdict;
 ghost use mathlib.Core.Path.{_≡_};
-ghost use Prim.Native.Nat.{_+_, _*_, _≤_, _<_};
+ghost use Prim.Native.Nat.{_+_, _*_, _/_, _%_, _^_, _≤_, _<_};
 ghost use lib.ListN.{length};
 ghost use Rattle.schedule.specs.Bounded.{chain, total};
 ghost use Rattle.schedule.specs.Plan;
 ghost use Rattle.schedule.specs.Numbers.{refusalNumbers, verdictNumbers, runNumbers};
-ghost use Rattle.schedule.specs.Lines.{decimal, three, checkLines, tickLine, runLines, lateLines};
+ghost use Rattle.schedule.specs.Lines.{decimal, hex, hexDigit, three, checkLines, tickLine, runLines, lateLines};
 ghost use Rattle.text.specs.Printed.{leaves, printed};
 ghost use Rattle.text.specs.Said.{refusalSaid, verdictSaid, runSaid, verdictWord, line};
-ghost use Rattle.text.specs.Appended.{Appended, inBase, number, ticksOf, wordOf, tickText, tickLength};
+ghost use Rattle.text.specs.Appended.{Appended, number, ticksOf, wordOf, tickText, tickLength};
 
 mod late;
 
@@ -157,19 +157,42 @@ fn put(out: &mut [u8], at: usize, s: &[u8]) -> usize
     at + i
 }
 
-// The last k digits of a number, from the last back to the first.
-fn put_digits(out: &mut [u8], at: usize, base: u32, k: usize, n: u32) -> usize
-    requires { ⌜ (at + k ≤ length (now out)) × ((0 < base) × (base ≤ 16)) ⌝ }
-    ensures { λ r. ⌜ Appended at (inBase base k n) (now (out .entry)) r (now (out .exit)) ⌝ }
+// A number in decimal, from the last digit back to the first.
+fn put_decimal(out: &mut [u8], at: usize, n: u32) -> usize
+    requires { ⌜ at + length (decimal n) ≤ length (now out) ⌝ }
+    ensures { λ r. ⌜ Appended at (decimal n) (now (out .entry)) r (now (out .exit)) ⌝ }
 {
-    let mut i = k;
+    let k = decimal_length(n);
+    let mut i = k - 1;
     let mut rest = n;
-    while 0 < i {
+    while 10 <= rest {
+        out[at + i] = hex_digit((rest % 10) as u8);
+        rest = rest / 10;
         i -= 1;
-        out[at + i] = hex_digit((rest % base) as u8);
-        rest = rest / base;
     }
+    out[at] = hex_digit(rest as u8);
     at + k
+}
+
+// The hexadecimal digit of 4 bits of a word, from a bit on.
+fn digit_from(word: u32, bit: u32) -> u8
+    requires { ⌜ bit < 32 ⌝ }
+    ensures { λ r. ⌜ r ≡ hexDigit (word / 2 ^ bit % 16) ⌝ }
+{
+    hex_digit(((word >> bit) & 15) as u8)
+}
+
+// "the word as 8 lowercase hexadecimal digits", from that of its highest 4 bits on.
+fn put_hex(out: &mut [u8], at: usize, word: u32) -> usize
+    requires { ⌜ at + 8 ≤ length (now out) ⌝ }
+    ensures { λ r. ⌜ Appended at (hex 8 word) (now (out .entry)) r (now (out .exit)) ⌝ }
+{
+    let mut i: u32 = 0;
+    while i < 8 {
+        out[at + i as usize] = digit_from(word, 28 - 4 * i);
+        i += 1;
+    }
+    at + 8
 }
 
 // A number in decimal, and the byte that ends it.
@@ -177,7 +200,7 @@ fn put_number(out: &mut [u8], at: usize, n: u32, end: u8) -> usize
     requires { ⌜ at + length (number n end) ≤ length (now out) ⌝ }
     ensures { λ r. ⌜ Appended at (number n end) (now (out .entry)) r (now (out .exit)) ⌝ }
 {
-    let next = put_digits(out, at, 10, decimal_length(n), n);
+    let next = put_decimal(out, at, n);
     out[next] = end;
     next + 1
 }
@@ -214,13 +237,13 @@ fn put_line(out: &mut [u8], at: usize, name: &[u8], said: Said) -> usize
     put_three(out, at3, said.a, said.b, said.c)
 }
 
-// "the tick then the word as 8 lowercase hexadecimal digits"
+// "the tick then the word"
 fn put_tick(out: &mut [u8], at: usize, t: u32, word: u32) -> usize
     requires { ⌜ at + length (tickLine t word) ≤ length (now out) ⌝ }
     ensures { λ r. ⌜ Appended at (tickLine t word) (now (out .entry)) r (now (out .exit)) ⌝ }
 {
     let at2 = put_number(out, at, t, b' ');
-    let at3 = put_digits(out, at2, 16, 8, word);
+    let at3 = put_hex(out, at2, word);
     put(out, at3, b"\n")
 }
 

@@ -3,29 +3,31 @@
 use native.Mathlib.Omega.{arith}
 use borrow.Author.Needs.{needs}
 use Rattle.text.proofs.AppendLaws.{appended-both}
-use Rattle.text.proofs.DigitLaws.{length-inBase}
 use Rattle.text.proofs.TextLaws.{length-number, tick-parts}
-use Rattle.laws.proofs.LineLengths.{length-tick}
+use Rattle.laws.proofs.LineLengths.{length-hex, length-tick}
 use Rattle.text.proofs.put_tick.Statement.{statement}
 use Rattle.text.proofs.put_tick.Tie as tie
 
 put-number-requires : tie.Need-put-number-requires
 put-number-requires c κs =
     let x = c .before .before .args in
-    omega (arith, length-tick (x .t) (x .word), length-number (x .t) 32, length-inBase 16 8 (x .word))
+    omega (arith, length-tick (x .t) (x .word), length-number (x .t) 32, length-hex 8 (x .word))
 
-put-digits-requires : tie.Need-put-digits-requires
-put-digits-requires c κs =
-    let x = c .before .before .before .before .before .before .args in
-    omega (arith, length-tick (x .t) (x .word), length-number (x .t) 32, length-inBase 16 8 (x .word))
+put-hex-requires : tie.Need-put-hex-requires
+put-hex-requires c κs =
+    let at-tick = c .before .before .before in
+    let x = at-tick .before .before .before .args in
+    omega (arith, length-tick (x .t) (x .word), length-number (x .t) 32, length-hex 8 (x .word))
 
 slice-aggregate-put : tie.Need-slice-aggregate-put
 slice-aggregate-put c = search needs
 
 put-requires : tie.Need-put-requires
 put-requires c κs =
-    let x = c .before .before .before .before .before .before .before .before .before .before .before .args in
-    omega (arith, length-tick (x .t) (x .word), length-number (x .t) 32, length-inBase 16 8 (x .word))
+    let at-word = c .before .before .before .before in
+    let at-tick = at-word .before .before .before .before in
+    let x = at-tick .before .before .before .args in
+    omega (arith, length-tick (x .t) (x .word), length-number (x .t) 32, length-hex 8 (x .word))
 
 same-length : tie.Need-same-length
 same-length c = search needs
@@ -38,14 +40,14 @@ returns c =
     let x = at-tick .before .before .before .args in
     rw (tick-parts (x .t) (x .word))
     (appended-both (at-tick .put-number .ensures)
-    (appended-both (at-word .put-digits .ensures) (at-end .put .ensures)))
+    (appended-both (at-word .put-hex .ensures) (at-end .put .ensures)))
 
 pub put-tick-spec : {M : Type 1} → statement M
 put-tick-spec =
     tie.close
     (tie.spec
     put-number-requires
-    put-digits-requires
+    put-hex-requires
     slice-aggregate-put
     put-requires
     same-length
