@@ -1,16 +1,20 @@
--- The machine from tick to tick: the tables hold its state, and the words written so far are its words.
+-- The machine from tick to tick: the tables hold its state, and the words written so far are its words. Whether it is played, and
+-- what the judgement of its end says.
 -- Assumes nothing.
 use Prim.Native.Nat.{ℕ, _+_, _≤_, _<_, min}
 use native.Mathlib.Decide.{decLt}
 use native.Mathlib.Numerals.{add-one}
 use native.Mathlib.Omega.{arith}
 use mathlib.Core.Bool.{Bool, true, false, _&&_, cond}
-use mathlib.Core.List.{List}
-use mathlib.Core.Option.{Option, none}
+use mathlib.Core.List.{List, [], _∷_}
+use mathlib.Core.Logic.{⊎-elim}
+use mathlib.Core.Option.{Option, some, none}
 use mathlib.Core.Path.{_≡_, refl, sym, subst, ap, ap₂, _∙_}
 use lib.Dec.{eqb}
 use lib.ListN.{length, getD, replicate, List·getD-eq-default}
 use borrow.Author.Tests.{le-leb, lt-leb}
+use denote.Enum.Declared.{tagOf}
+use types.Run.{OneOf}
 use Rattle.schedule.specs.Bounded.{bit, chain}
 use Rattle.schedule.specs.Fields.{bytes}
 use Rattle.schedule.specs.Rule.{Refusal, firstBreak}
@@ -19,18 +23,20 @@ use Rattle.schedule.specs.Choice.{Choice}
 use Rattle.schedule.specs.Plan.{tickAt, ticksIn}
 use Rattle.schedule.specs.Machine.{stateAt, machineWord, machineEnd, machineOwes}
 use Rattle.schedule.specs.Answers.{runRules}
+use Rattle.schedule.specs.Numbers.{refusalNumbers}
+use Rattle.schedule.specs.declared.Refusal.{Refusal as Declared}
 use Rattle.laws.proofs.FieldLaws.{length-bytes, length-chain}
 use Rattle.laws.proofs.Steps.{zeros-at}
 use Rattle.fields.specs.Put.{put}
 use Rattle.fields.proofs.PutLaws.{put-nil, put-next, put-out, length-put}
-use Rattle.records.specs.declared.Pass.{Pass}
-use Rattle.records.specs.Reads.{passNumbers}
 use Rattle.tables.specs.Columns.{byActivity}
 use Rattle.tables.proofs.TableLaws.{by-table, by-beyond, length-by, table-by}
 use Rattle.machine.specs.Masks.{tickWord, Tabled, Keeps, Stepped}
 use Rattle.machine.specs.Ending.{Stopped}
-use Rattle.machine.specs.Played.{gridBytes, writtenGrid, playedEnds, playedRefusal, playedGrid}
-use Rattle.machine.specs.Played.{Finished, Ended}
+use Rattle.machine.specs.declared.Judged.{Judged}
+use Rattle.machine.proofs.Judged.{the-type}
+use Rattle.machine.specs.Played.{gridBytes, writtenGrid, playedEnds, playedGrid, Finished, Ended}
+use Rattle.machine.specs.Played.{Judgement, refused, not-played, judgedNumbers, judgedBy, playedJudgement}
 use Rattle.machine.proofs.MaskLaws.{tick-is, keeps-first, keeps-next, stepped-fewer}
 
 -- ---- the words in the grid
@@ -168,42 +174,69 @@ finished-stopped m q grid grid′ owed ends few h = record {
 
 -- ---- played or not
 
--- the ends, the refusal and the grid that a call answers and leaves
-abbrev Says : Model → Choice → List ℕ → List ℕ → List ℕ → Option Refusal → Type 0
+-- the ends, how they are judged, and the grid that a call answers and leaves
+abbrev Says : Model → Choice → List ℕ → List ℕ → List ℕ → Judgement → Type 0
 Says m q grid grid′ ends judged =
-    (ends ≡ playedEnds m q) × (judged ≡ playedRefusal m q) × (grid′ ≡ playedGrid m q grid)
+    (ends ≡ playedEnds m q) × (judged ≡ playedJudgement m q) × (grid′ ≡ playedGrid m q grid)
 
-module _ (m : Model) (q : Choice) (grid grid′ owed ends : List ℕ) (judged : Option Refusal) where
-  pub played : m .activities ≤ 32 → Finished m q grid grid′ owed ends → judged ≡ firstBreak (runRules m q)
+module _ (m : Model) (q : Choice) (grid grid′ owed ends : List ℕ) (judged : Judgement) where
+  pub played : m .activities ≤ 32 → Finished m q grid grid′ owed ends → judged ≡ judgedBy (firstBreak (runRules m q))
       → Says m q grid grid′ ends judged
-  unfolding playedEnds playedRefusal playedGrid
+  unfolding playedEnds playedJudgement playedGrid
   played few h j =
       let yes? = le-leb (m .activities) 32 few in (
         h .end-ticks ∙ sym (ap (λ (t : Bool). cond t (byActivity m (machineEnd m (q .release) (q .duration))) (replicate 32 0)) yes?),
-        j ∙ sym (ap (λ (t : Bool). cond t (firstBreak (runRules m q)) none) yes?),
+        j ∙ sym (ap (λ (t : Bool). cond t (judgedBy (firstBreak (runRules m q))) not-played) yes?),
         h .written ∙ sym (ap (λ (t : Bool). cond t (writtenGrid m q (m .horizon) grid) grid) yes?),
       )
 
-module _ (m : Model) (q : Choice) (grid grid′ ends : List ℕ) (judged : Option Refusal) where
-  pub unplayed : 32 < m .activities → ends ≡ replicate 32 0 → judged ≡ none → grid′ ≡ grid → Says m q grid grid′ ends judged
-  unfolding playedEnds playedRefusal playedGrid
+module _ (m : Model) (q : Choice) (grid grid′ ends : List ℕ) (judged : Judgement) where
+  pub unplayed : 32 < m .activities → ends ≡ replicate 32 0 → judged ≡ not-played → grid′ ≡ grid → Says m q grid grid′ ends judged
+  unfolding playedEnds playedJudgement playedGrid
   unplayed many e j g =
       let no? = lt-leb (m .activities) 32 many in (
         e ∙ sym (ap (λ (t : Bool). cond t (byActivity m (machineEnd m (q .release) (q .duration))) (replicate 32 0)) no?),
-        j ∙ sym (ap (λ (t : Bool). cond t (firstBreak (runRules m q)) none) no?),
+        j ∙ sym (ap (λ (t : Bool). cond t (judgedBy (firstBreak (runRules m q))) not-played) no?),
         g ∙ sym (ap (λ (t : Bool). cond t (writtenGrid m q (m .horizon) grid) grid) no?),
       )
 
 -- what it promises of a model that meets its form rules
-pub played-ended : (m : Model) (q : Choice) (judged : Pass) (ends : List ℕ) → Formed m
-    → ends ≡ playedEnds m q → passNumbers judged ≡ playedRefusal m q → Ended m q judged ends
-unfolding playedEnds playedRefusal
+pub played-ended : (m : Model) (q : Choice) (judged : Judged) (ends : List ℕ) → Formed m
+    → ends ≡ playedEnds m q → judgedNumbers judged ≡ playedJudgement m q → Ended m q judged ends
+unfolding playedEnds playedJudgement
 played-ended m q judged ends formed e j =
     let few = formed .activities .1 in
     let yes? = le-leb (m .activities) 32 few in
     record {
       formed = formed;
-      refusal = j ∙ ap (λ (t : Bool). cond t (firstBreak (runRules m q)) none) yes?;
+      judgement = j ∙ ap (λ (t : Bool). cond t (judgedBy (firstBreak (runRules m q))) not-played) yes?;
       end-ticks = by-table m _ ends few
           (e ∙ ap (λ (t : Bool). cond t (byActivity m (machineEnd m (q .release) (q .duration))) (replicate 32 0)) yes?);
     }
+
+-- ---- what the judgement of a machine that was played says of 42 and 43
+
+judged-refused : (x : Refusal) (o : Option Refusal) → refused x ≡ judgedBy o → o ≡ some x
+judged-refused x none e = cc
+judged-refused x (some y) e = cc
+
+-- a judgement that is no refusal: its case is the first of `Judged` or the third
+abbrev pub Unrefused : Judged → Type 0
+Unrefused judged = OneOf (0 ∷ 2 ∷ []) (tagOf the-type judged)
+
+judged-none : (judged : Judged) (o : Option Refusal) → judgedNumbers judged ≡ judgedBy o → Unrefused judged → o ≡ none
+judged-none Judged.Succeeds none e u = refl
+judged-none Judged.Succeeds (some x) e u = cc
+judged-none (Judged.Refused x) o e u = absurd (⊎-elim (λ w. omega arith) (λ w. omega arith) u)
+judged-none Judged.NotPlayed none e u = refl
+judged-none Judged.NotPlayed (some x) e u = cc
+
+module _ (m : Model) (q : Choice) (judged : Judged) (ends : List ℕ) (ended : Ended m q judged ends) where
+  -- a refusal is their first break
+  pub ended-refused : (x : Declared) → judged ≡ Judged.Refused x → firstBreak (runRules m q) ≡ some (refusalNumbers x)
+  ended-refused x e =
+      judged-refused (refusalNumbers x) (firstBreak (runRules m q)) (sym (ap judgedNumbers e) ∙ ended .judgement)
+
+  -- where there is no refusal none breaks
+  pub ended-success : Unrefused judged → firstBreak (runRules m q) ≡ none
+  ended-success u = judged-none judged (firstBreak (runRules m q)) (ended .judgement) u

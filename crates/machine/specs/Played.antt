@@ -1,9 +1,9 @@
--- What is left when the machine has been played: the ends by activity, the refusal of 42 and 43, and the words in a grid.
+-- What is left when the machine has been played: the ends by activity, how they are judged, and the words in a grid.
 -- Assumes nothing.
 use Prim.Native.Nat.{ℕ, min}
 use mathlib.Core.Bool.{Bool, cond}
 use mathlib.Core.List.{List}
-use mathlib.Core.Option.{Option, none}
+use mathlib.Core.Option.{Option, some, none}
 use mathlib.Core.Path.{_≡_}
 use lib.Dec.{leb}
 use lib.ListN.{replicate}
@@ -15,10 +15,10 @@ use Rattle.schedule.specs.Choice.{Choice}
 use Rattle.schedule.specs.Plan.{ticksIn}
 use Rattle.schedule.specs.Machine.{machineWord, machineEnd, machineOwes}
 use Rattle.schedule.specs.Answers.{runRules}
+use Rattle.schedule.specs.Numbers.{refusalNumbers}
 use Rattle.fields.specs.Put.{put}
-use Rattle.records.specs.declared.Pass.{Pass}
-use Rattle.records.specs.Reads.{passNumbers}
 use Rattle.tables.specs.Columns.{TableOf, byActivity}
+use Rattle.machine.specs.declared.Judged.{Judged}
 
 -- the machine's words of the first k ticks, 4 bytes each
 unfoldable pub gridBytes : Model → Choice → ℕ → List ℕ
@@ -32,9 +32,26 @@ playable m = leb (m .activities) 32
 unfoldable pub playedEnds : Model → Choice → List ℕ
 playedEnds m q = cond (playable m) (byActivity m (machineEnd m (q .release) (q .duration))) (replicate 32 0)
 
--- the first break of 42 and 43, none where the machine is not played
-unfoldable pub playedRefusal : Model → Choice → Option Refusal
-playedRefusal m q = cond (playable m) (firstBreak (runRules m q)) none
+-- how the machine's end is judged
+pub data Judgement : Type 0 where
+  succeeds : Judgement
+  refused : Refusal → Judgement
+  not-played : Judgement
+
+-- a judgement as the code answers it, in the paper's numbers
+abbrev pub judgedNumbers : Judged → Judgement
+judgedNumbers Judged.Succeeds = succeeds
+judgedNumbers (Judged.Refused x) = refused (refusalNumbers x)
+judgedNumbers Judged.NotPlayed = not-played
+
+-- the judgement of a machine that is played: refused by the first break of 42 and 43, else it succeeds
+abbrev pub judgedBy : Option Refusal → Judgement
+judgedBy none = succeeds
+judgedBy (some x) = refused x
+
+-- the judgement of any machine
+unfoldable pub playedJudgement : Model → Choice → Judgement
+playedJudgement m q = cond (playable m) (judgedBy (firstBreak (runRules m q))) not-played
 
 -- a grid with the words of the ticks for which it has room
 abbrev pub writtenGrid : Model → Choice → ℕ → List ℕ → List ℕ
@@ -50,8 +67,9 @@ pub record Finished (m : Model) (q : Choice) (grid grid′ owed ends : List ℕ)
   pub owed-ticks : owed ≡ byActivity m (machineOwes m (q .release) (q .duration))
   pub end-ticks : ends ≡ byActivity m (machineEnd m (q .release) (q .duration))
 
--- The same of a model that meets its form rules: the refusal is that of 42 and 43, and the table holds the machine's ends.
-pub record Ended (m : Model) (q : Choice) (judged : Pass) (ends : List ℕ) : Type 0 where
+-- The machine of a model that meets its form rules, which is always played: its end is judged by 42 and 43, and the table holds
+-- the ends.
+pub record Ended (m : Model) (q : Choice) (judged : Judged) (ends : List ℕ) : Type 0 where
   pub formed : Formed m
-  pub refusal : passNumbers judged ≡ firstBreak (runRules m q)
+  pub judgement : judgedNumbers judged ≡ judgedBy (firstBreak (runRules m q))
   pub end-ticks : TableOf m ends (machineEnd m (q .release) (q .duration))

@@ -1,7 +1,7 @@
 // After the last tick: what is still owed, and the deadlines.
+use crate::Judged;
 use crate::tick::RELEASES;
 use crate::tick::Tables;
-use records::Pass;
 use schedule::Place;
 use schedule::Refusal;
 use schedule::RunRefusal;
@@ -18,9 +18,10 @@ ghost use Rattle.schedule.specs.Choice.{choice};
 ghost use Rattle.schedule.specs.Rule.{firstBreak};
 ghost use Rattle.schedule.specs.Answers.{runRules};
 ghost use Rattle.schedule.specs.Numbers.{refusalNumbers, runNumber};
-ghost use Rattle.records.specs.Reads.{passNumbers, refusalIn};
+ghost use Rattle.records.specs.Reads.{refusalIn};
 ghost use Rattle.machine.specs.Ending.{Stopped, inTimeFrom};
 ghost use Rattle.machine.specs.Masks.{Tabled};
+ghost use Rattle.machine.specs.Played.{judgedNumbers, judgedBy};
 
 // "42 something owed after tick H − 1; A the lowest such activity": that activity of the first n, n where none owes.
 fn first_owing(n: usize, owed: &[u32; 32]) -> usize
@@ -61,21 +62,28 @@ fn refusal(why: RunRefusal, a: u32) -> Refusal
 }
 
 // 42, then 43, of what the machine leaves.
-pub(crate) fn judge(s: &[u8], q: &[u8], tables: &Tables, owed: &[u32; 32], ends: &[u32; 32]) -> Pass
+pub(crate) fn judge(
+    s: &[u8],
+    q: &[u8],
+    tables: &Tables,
+    owed: &[u32; 32],
+    ends: &[u32; 32],
+) -> Judged
     requires { ⌜ Tabled (model (now s)) (choice (now q) .release) (now tables)
         × Stopped (model (now s)) (choice (now q)) (now owed) (now ends) ⌝ }
-    ensures { λ r. ⌜ passNumbers r ≡ firstBreak (runRules (model (now (s .entry))) (choice (now (q .entry)))) ⌝ }
+    ensures { λ r. ⌜ judgedNumbers r
+        ≡ judgedBy (firstBreak (runRules (model (now (s .entry))) (choice (now (q .entry))))) ⌝ }
 {
     let sizes = records::model::counts(s);
     let n = sizes.activities as usize;
     let owing = first_owing(n, owed);
     if owing < n {
-        return Pass::Refused(refusal(RunRefusal::Owed, owing as u32));
+        return Judged::Refused(refusal(RunRefusal::Owed, owing as u32));
     }
     let periods = tables::columns::table(Column::ChosenPeriod, s, q);
     let late = first_late(n, &tables[RELEASES], &periods, ends);
     if late < n {
-        return Pass::Refused(refusal(RunRefusal::Late, late as u32));
+        return Judged::Refused(refusal(RunRefusal::Late, late as u32));
     }
-    Pass::Holds
+    Judged::Succeeds
 }

@@ -3,7 +3,7 @@ mod ending;
 mod stretches;
 mod tick;
 
-use records::Pass;
+use schedule::Refusal;
 use tables::columns::Column;
 use tables::ranking::Order;
 use tick::Tables;
@@ -13,8 +13,7 @@ ghost use Rattle.schedule.specs.Model.{model};
 ghost use Rattle.schedule.specs.Choice.{choice};
 ghost use Rattle.tables.specs.Columns.{TableOf};
 ghost use Rattle.machine.specs.Masks.{atPlace, Tabled};
-ghost use Rattle.records.specs.Reads.{passNumbers};
-ghost use Rattle.machine.specs.Played.{Finished, playedEnds, playedRefusal, playedGrid};
+ghost use Rattle.machine.specs.Played.{Finished, playedEnds, judgedNumbers, playedJudgement, playedGrid};
 
 // The machine's state: "for each activity the ticks still owed, and its end once nothing is owed".
 struct State {
@@ -22,10 +21,17 @@ struct State {
     ends: [u32; 32],
 }
 
-// How the machine ends: the ends by activity, and the refusal of 42 and 43, or that there is none.
+// "The run succeeds if nothing is owed and each end keeps the deadline (rule 23)", else 42 or 43; or the machine was not played.
+pub enum Judged {
+    Succeeds,
+    Refused(Refusal),
+    NotPlayed,
+}
+
+// How the machine ends: the ends by activity, and how they are judged.
 pub struct Played {
     pub ends: [u32; 32],
-    pub judged: Pass,
+    pub judged: Judged,
 }
 
 // The activities in rank order: at each place the word of the one that so many rank before.
@@ -85,18 +91,18 @@ fn play_ticks(s: &[u8], q: &[u8], tables: &Tables, grid: &mut [u8]) -> State
 }
 
 // Plays the machine of a model and a choice of any bytes, into a grid of any length: an empty one where no page is wanted.
-// "The run succeeds if nothing is owed and each end keeps the deadline (rule 23)." A model of more activities than a word has
-// bits is not played, and every end is 0 then, with no refusal; none that meets its form rules has so many.
+// A model of more activities than a word has bits is not played: the answer says so, every end is 0 and the grid stays as it
+// was. No model that meets its form rules has so many.
 pub fn play(s: &[u8], q: &[u8], grid: &mut [u8]) -> Played
     ensures { λ r. ⌜ (r .ends ≡ playedEnds (model (now (s .entry))) (choice (now (q .entry))))
-        × (passNumbers (r .judged) ≡ playedRefusal (model (now (s .entry))) (choice (now (q .entry))))
+        × (judgedNumbers (r .judged) ≡ playedJudgement (model (now (s .entry))) (choice (now (q .entry))))
         × (now (grid .exit) ≡ playedGrid (model (now (s .entry))) (choice (now (q .entry))) (now (grid .entry))) ⌝ }
 {
     let sizes = records::model::counts(s);
     if 32 < sizes.activities {
         return Played {
             ends: [0u32; 32],
-            judged: Pass::Holds,
+            judged: Judged::NotPlayed,
         };
     }
     let tables = tabulate(s, q);

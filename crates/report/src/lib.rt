@@ -1,4 +1,5 @@
 // "Lateness in a table": for each activity of a run the deadline less its end.
+use machine::Judged;
 use records::Pass;
 use schedule::Place;
 use schedule::Refusal;
@@ -20,19 +21,20 @@ mod rows;
 // "a list under 32 rows"
 const ROWS: usize = 32;
 
-// The run's answer, from how the machine ended.
-fn verdict(s: &[u8], q: &[u8], judged: Pass, ends: &[u32; 32]) -> RunVerdict
+// The run's answer, from how the machine ended. The form rules have passed, so the machine was played, and what is not refused
+// is a success.
+fn verdict(s: &[u8], q: &[u8], judged: Judged, ends: &[u32; 32]) -> RunVerdict
     requires { ⌜ Ended (model (now s)) (choice (now q)) judged (now ends) ⌝ }
     ensures { λ r. ⌜ runNumbers r ≡ pastRows (model (now (s .entry))) (choice (now (q .entry))) ⌝ }
 {
-    match judged {
-        Pass::Holds => RunVerdict::Accepted(figures::written(s, q, ends)),
-        Pass::Refused(x) => RunVerdict::Refused(x),
+    if let Judged::Refused(x) = judged {
+        return RunVerdict::Refused(x);
     }
+    RunVerdict::Accepted(figures::written(s, q, ends))
 }
 
 // The answer, and the rows filled "for success and for 43; for every other answer no row is written".
-fn conclude(s: &[u8], q: &[u8], judged: Pass, ends: &[u32; 32], list: &mut [i32]) -> RunVerdict
+fn conclude(s: &[u8], q: &[u8], judged: Judged, ends: &[u32; 32], list: &mut [i32]) -> RunVerdict
     requires { ⌜ Ended (model (now s)) (choice (now q)) judged (now ends) × (rowsNeeded ≤ length (now list)) ⌝ }
     ensures { λ r. ⌜ Reports (pastRows (model (now (s .entry))) (choice (now (q .entry)))) (model (now (s .entry)))
         (choice (now (q .entry))) (now (list .entry)) (now (list .exit)) r ⌝ }

@@ -37,17 +37,16 @@ use Rattle.fields.specs.Put.{put}
 use Rattle.fields.proofs.PutLaws.{put-at, put-back, put-front, put-twice, drop-put, length-put}
 use Rattle.records.specs.Writes.{headBytes}
 use Rattle.records.proofs.WriteLaws.{length-head, pairs-ext}
-use Rattle.machine.specs.Played.{gridBytes, playedEnds, playedRefusal, writtenGrid, playedGrid}
+use Rattle.machine.specs.declared.Judged.{Judged}
+use Rattle.machine.specs.Played.{gridBytes, playedEnds, judgedNumbers, playedJudgement, writtenGrid, playedGrid}
 use Rattle.machine.proofs.PlayLaws.{length-grid, grid-whole, played-ended}
-use Rattle.records.specs.declared.Pass.{Pass}
-use Rattle.records.specs.Reads.{passNumbers}
 use Rattle.run.specs.Outcome.{Placed, Standing, Answers}
 use Rattle.run.specs.Front.{frontBytes, frontIn, gridOf, gridIn, startIn}
 use Rattle.run.proofs.PlanLaws.{rest-says, part-says}
 
 -- ---- the words, starts and ends of the buffer
 
-module _ (m : Model) (q : Choice) (out : List ℕ) (judged : Pass) (ends : List ℕ) (stands : Standing m q out judged ends) where
+module _ (m : Model) (q : Choice) (out : List ℕ) (judged : Judged) (ends : List ℕ) (stands : Standing m q out judged ends) where
   fits : gridOf m + length (gridBytes m q (m .horizon)) ≤ length out
   unfolding lengthNeeded
   fits = omega (arith, length-grid m q (m .horizon), stands .room)
@@ -128,9 +127,9 @@ unfolding lengthNeeded
 placed-fits m q l h = omega (arith, length-grid m q (m .horizon))
 
 -- the machine played into the part behind the rows
-pub played-placed : (m : Model) (q : Choice) (at : ℕ) (out part : List ℕ) (judged : Pass) (ends : List ℕ) → Formed m
+pub played-placed : (m : Model) (q : Choice) (at : ℕ) (out part : List ℕ) (judged : Judged) (ends : List ℕ) → Formed m
     → gridOf m + tickAt (m .horizon) ≤ length out → at ≡ gridOf m
-    → (ends ≡ playedEnds m q) × (passNumbers judged ≡ playedRefusal m q)
+    → (ends ≡ playedEnds m q) × (judgedNumbers judged ≡ playedJudgement m q)
     × (part ≡ playedGrid m q (take (length out - at) (drop at out)))
     → Placed m q out (putMid at (length out - at) out part) judged ends
 unfolding playedGrid
@@ -148,7 +147,7 @@ played-placed m q at out part judged ends formed room e h =
     }
 
 -- it stands
-pub placed-stands : (m : Model) (q : Choice) (l out : List ℕ) (judged : Pass) (ends : List ℕ) → lengthNeeded m ≤ length l
+pub placed-stands : (m : Model) (q : Choice) (l out : List ℕ) (judged : Judged) (ends : List ℕ) → lengthNeeded m ≤ length l
     → Placed m q l out judged ends → Standing m q out judged ends
 placed-stands m q l out judged ends room p =
     let e = placed-fits m q l room in
@@ -195,7 +194,7 @@ figures-read m q rest formed release period =
     (stands-first (bytes ++ rest) 0 bytes rest (stands-whole (bytes ++ rest))) in
     figures-ext m (plan (bytes ++ rest)) (machinePlan m q) (back .word) (back .end) (back .release)
 
-pub accepted-answers : (m : Model) (q : Choice) (out out′ : List ℕ) (judged : Pass) (ends : List ℕ) (k : ℕ) (f : Shown)
+pub accepted-answers : (m : Model) (q : Choice) (out out′ : List ℕ) (judged : Judged) (ends : List ℕ) (k : ℕ) (f : Shown)
     → ((j : ℕ) → q .release j < 65536) → ((j : ℕ) → q .period j < 65536)
     → Standing m q out judged ends → firstBreak (runRules m q) ≡ none
     → k ≡ lengthNeeded m → out′ ≡ put 0 (frontIn m q out ends) out → figureNumbers f ≡ figures m (plan out′)
@@ -227,7 +226,7 @@ room-answers m q l x h e =
     }
 
 -- with room, what was concluded of the buffer with the grid holds of the buffer as it was lent
-pub outcome-answers : (m : Model) (q : Choice) (l out out′ : List ℕ) (judged : Pass) (ends : List ℕ) (r : RunVerdict)
+pub outcome-answers : (m : Model) (q : Choice) (l out out′ : List ℕ) (judged : Judged) (ends : List ℕ) (r : RunVerdict)
     → lengthNeeded m ≤ length l → Placed m q l out judged ends → Answers (concluded m q) m q out out′ r
     → Answers (outcome m q (length l)) m q l out′ r
 outcome-answers m q l out out′ judged ends r h p a =

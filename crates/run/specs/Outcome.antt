@@ -10,17 +10,17 @@ use Rattle.schedule.specs.Answers.{lengthNeeded, Outcome, answerOf, bufferAfter
 use Rattle.schedule.specs.Numbers.{runNumbers}
 use Rattle.schedule.specs.declared.RunVerdict.{RunVerdict}
 use Rattle.fields.specs.Put.{put}
-use Rattle.records.specs.declared.Pass.{Pass}
+use Rattle.machine.specs.declared.Judged.{Judged}
 use Rattle.machine.specs.Played.{gridBytes, Ended}
 use Rattle.run.specs.Front.{gridOf}
 
 -- The grid is written behind the rows, and how the machine ended is known.
-pub record Placed (m : Model) (q : Choice) (out out′ : List ℕ) (judged : Pass) (ends : List ℕ) : Type 0 where
+pub record Placed (m : Model) (q : Choice) (out out′ : List ℕ) (judged : Judged) (ends : List ℕ) : Type 0 where
   pub written : out′ ≡ put (gridOf m) (gridBytes m q (m .horizon)) out
   pub ended : Ended m q judged ends
 
 -- The grid stands in the buffer, and how the machine ended is known.
-pub record Standing (m : Model) (q : Choice) (out : List ℕ) (judged : Pass) (ends : List ℕ) : Type 0 where
+pub record Standing (m : Model) (q : Choice) (out : List ℕ) (judged : Judged) (ends : List ℕ) : Type 0 where
   pub room : lengthNeeded m ≤ length out
   pub grid : put (gridOf m) (gridBytes m q (m .horizon)) out ≡ out
   pub ended : Ended m q judged ends

@@ -1,4 +1,5 @@
 // The priority run.
+use machine::Judged;
 use records::Pass;
 use schedule::Place;
 use schedule::Refusal;
@@ -16,14 +17,14 @@ ghost use Rattle.run.specs.Outcome.{Standing, Answers};
 mod plan;
 
 // The answer once the grid stands in the buffer: "42 and 43 set the plan's length of bytes to 0", a success writes the rest
-// of the plan.
-fn conclude(s: &[u8], q: &[u8], judged: Pass, ends: &[u32; 32], out: &mut [u8]) -> RunVerdict
+// of the plan. The form rules have passed, so the machine was played, and what is not refused is a success.
+fn conclude(s: &[u8], q: &[u8], judged: Judged, ends: &[u32; 32], out: &mut [u8]) -> RunVerdict
     requires { ⌜ Standing (model (now s)) (choice (now q)) (now out) judged (now ends) ⌝ }
     ensures { λ r. ⌜ Answers (concluded (model (now (s .entry))) (choice (now (q .entry)))) (model (now (s .entry)))
         (choice (now (q .entry))) (now (out .entry)) (now (out .exit)) r ⌝ }
 {
     let length = plan::needed(s);
-    if let Pass::Refused(x) = judged {
+    if let Judged::Refused(x) = judged {
         plan::clear(out, length as usize);
         return RunVerdict::Refused(x);
     }

@@ -3,13 +3,13 @@
 use Prim.Native.Nat.{ℕ}
 use native.Mathlib.Omega.{arith}
 use mathlib.Core.List.{_++_}
-use mathlib.Core.Path.{sym, ap, _∙_}
+use mathlib.Core.Path.{ap, _∙_}
 use lib.ListN.{drop, replicate}
 use borrow.Author.Needs.{needs}
 use Rattle.schedule.specs.Fields.{Bytes}
 use Rattle.schedule.specs.Answers.{lengthNeeded}
 use Rattle.laws.proofs.Ranges.{chosen-release-lt, chosen-period-lt}
-use Rattle.records.specs.Reads.{passNumbers}
+use Rattle.machine.proofs.PlayLaws.{ended-refused, ended-success}
 use Rattle.run.proofs.RunLaws.{refused-answers, accepted-answers, ends-small}
 use Rattle.run.proofs.conclude.Statement.{statement}
 use Rattle.run.proofs.conclude.Tie as tie
@@ -31,20 +31,18 @@ same-length c = search needs
 
 returns : tie.Need-returns
 returns c =
-    let c5 = c .before .before .before .before .before in
-    let c7 = c5 .before .before in
-    let start = c7 .before .before .before .before in
-    refused-answers _ _ _ _ _
-    (sym (start .pre .ended .refusal) ∙ ap passNumbers (c5 .judged .given .1))
-    (c .before .before .clear .ensures ∙ ap (λ (k : ℕ). replicate k 0 ++ drop k (start .args .out .now)) (c7 .needed .ensures))
-
-enum-told : tie.Need-enum-told
-enum-told c = search needs
+    let at-clear = c .before .before in
+    let at-refusal = at-clear .before .before .before in
+    let at-needed = at-refusal .before .before in
+    let start = at-needed .before .before .before .before in
+    refused-answers _ _ _ _ _ (ended-refused _ _ _ _ (start .pre .ended) _ (at-refusal .judged .given .1))
+    (at-clear .clear .ensures ∙ ap (λ (k : ℕ). replicate k 0 ++ drop k (start .args .out .now)) (at-needed .needed .ensures))
 
 write-front-requires : tie.Need-write-front-requires
 unfolding lengthNeeded
 write-front-requires c κs =
-    let stands = c .before .before .before .before .before .before .before .pre in
+    let at-needed = c .before .before in
+    let stands = at-needed .before .before .before .before .pre in
     record {
       formed = stands .ended .formed;
       room = omega (arith, stands .room);
@@ -59,15 +57,15 @@ same-length-2 c = search needs
 
 returns-2 : tie.Need-returns-2
 returns-2 c =
-    let c4 = c .before .before .before .before in
-    let c6 = c4 .before .before in
-    let c8 = c6 .before .before in
-    let c10 = c8 .before .before in
-    let start = c10 .before .before in
-    let chosen : Bytes (start .args .q .now) = λ i _. c10 .shared-slice-known2 .given i .fits in
+    let at-front = c .before .before .before .before in
+    let at-success = at-front .before .before in
+    let at-needed = at-success .before in
+    let at-choice = at-needed .before .before in
+    let start = at-choice .before .before in
+    let chosen : Bytes (start .args .q .now) = λ i _. at-choice .shared-slice-known2 .given i .fits in
     accepted-answers _ _ _ _ _ _ _ _ (chosen-release-lt _ chosen) (chosen-period-lt _ chosen) (start .pre)
-    (sym (start .pre .ended .refusal) ∙ ap passNumbers (c6 .enum-told .given .1))
-    (c8 .needed .ensures) (c4 .write-front .ensures) (c .figures .ensures)
+    (ended-success _ _ _ _ (start .pre .ended) (at-success .match .keys2))
+    (at-needed .needed .ensures) (at-front .write-front .ensures) (c .figures .ensures)
 
 pub conclude-spec : {M : Type 1} → statement M
 conclude-spec =
@@ -79,7 +77,6 @@ conclude-spec =
     clear-requires
     same-length
     returns
-    enum-told
     write-front-requires
     figures-requires
     same-length-2
