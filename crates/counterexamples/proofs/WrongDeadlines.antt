@@ -1,6 +1,6 @@
 -- Deadlines that are nearly right, each with literal records on which the run, the report's rows and both checks would be
 -- others with it than they are. One table of threads that are all released late, and one of a thread released at 0 beside one
--- released late, where the row of the first stays. One truth about each; the values are worked out by hand.
+-- released late, where with 01's deadline the row of the first stays. One truth about each; the values are worked out by hand.
 -- Assumes nothing.
 use Prim.Native.Nat.{ℕ, _+_, _-_, _%_}
 use mathlib.Core.List.{List, [], _∷_, _++_, map}

@@ -32,7 +32,8 @@ countedUsage m p = total (m .activities) (λ a. countOf m p a * m .width a)
 
 -- The plain check of a model and a plan.
 pub record PlainCheck (s r : List ℕ) : Type 1 where
-  -- it decides "every single-interval rule" as Keeps writes them out, 21 to 29
+  -- it decides "every single-interval rule" as Keeps writes them out: 21 to 29 without 24, which 21 implies (U11 of 02), 23 with
+  -- the deadline counted from the release (U2), 28 and 29 with widths (U7)
   pub decides : Decides (plainVerdict s r) (KeepsPlain (model s) (plan r)) (plainRules (model s) (plan r))
       (figures (model s) (plan r))
   pub usage : (f : Figures) → plainVerdict s r ≡ accepted f → f .usage ≡ countedUsage (model s) (plan r)

@@ -30,8 +30,7 @@ PagesUnroll = (s : List ℕ) → Bytes s → MeetsForm s → Unrolls (page s) (m
 
 -- ---- the page is its unrolled model
 
--- What is answered about a model's record is made of two things: the form rule that it breaks first, or none, and the model that
--- it says. Two records give the same.
+-- What two records give to whoever asks is the same: the form rule that they break first, or none, and the model that they say.
 pub record SameGiven (s u : List ℕ) : Type 0 where
   pub form : firstBreak (modelForm s) ≡ firstBreak (modelForm u)
   pub says : model s ≡ model u

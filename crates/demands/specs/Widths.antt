@@ -2,24 +2,23 @@
 -- that is answered about a model of width 1 is what was answered before, and so is what is answered about older models that are
 -- wrapped for exchange. And what the usage of every model is: "usage, demand 2's figure with it, is counted in core ticks".
 -- Assumes nothing.
-use Prim.Native.Nat.{ℕ, _*_, _<_}
+use Prim.Native.Nat.{ℕ, _<_}
 use mathlib.Core.List.{List}
 use mathlib.Core.Logic.{_⊎_}
 use mathlib.Core.Path.{_≡_}
 use lib.IntN.{ℤ}
 use lib.ListN.{length}
-use Rattle.schedule.specs.Bounded.{total}
 use Rattle.schedule.specs.Fields.{field}
 use Rattle.schedule.specs.Rule.{Rule, firstBreak}
 use Rattle.schedule.specs.Model.{Model, page, model, modelForm}
 use Rattle.schedule.specs.Plan.{Plan}
 use Rattle.schedule.specs.Machine.{machineWord, machineStart, machineEnd, machineOwes}
-use Rattle.schedule.specs.Checks.{countOf}
 use Rattle.schedule.specs.Answers.{figures, plainVerdict, strictVerdict, runAnswer, runBuffer}
 use Rattle.schedule.specs.Report.{reportAnswer, reportRows}
 use Rattle.schedule.specs.Streams.{viewRefusal, viewWord}
 use Rattle.schedule.specs.Exchange.{wrapped, standing, recordAt}
 use Rattle.schedule.specs.Exchange.{bothOf, pairAnswer, pairPart, pairBytes, recordsOf, fileAnswer, fileBytes}
+use Rattle.demands.specs.Demand2.{countedUsage}
 use Rattle.demands.specs.FormerForm
 use Rattle.demands.specs.FormerMachine
 use Rattle.demands.specs.FormerChecks
@@ -95,4 +94,4 @@ pub record WrappedAsBefore : Type 0 where
 
 -- "counted in core ticks": an activity's ticks count as often as it takes cores, of every model and every plan
 abbrev pub InCoreTicks : Type 0
-InCoreTicks = (m : Model) (p : Plan) → figures m p .usage ≡ total (m .activities) (λ a. countOf m p a * m .width a)
+InCoreTicks = (m : Model) (p : Plan) → figures m p .usage ≡ countedUsage m p

@@ -200,7 +200,8 @@ fn print_words(asked: Asked) {
     print_word(third);
 }
 
-// Reads the next case of a view that is held and prints what its making answers and what it gives at three ticks.
+// Reads the next case of a view that is held, and prints the refusal of its making, as the call for it tells, and what the view
+// gives at three ticks.
 fn next_held(fd: i32) {
     let mut model = [0u8; 1024];
     let mut plan = [0u8; 17189];

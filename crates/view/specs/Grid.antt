@@ -17,7 +17,7 @@ unfoldable pub heldBytes : Option Refusal → List ℕ → List ℕ
 heldBytes none r = planGrid r
 heldBytes (some x) r = []
 
--- where they begin in the plan: an empty part at 0
+-- where they begin in the plan: where its grid does, and after a refusal an empty part at 0
 unfoldable pub heldFrom : Option Refusal → List ℕ → ℕ
 heldFrom none r = planGridAt r
 heldFrom (some x) r = 0
