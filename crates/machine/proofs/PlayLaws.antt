@@ -26,6 +26,7 @@ use Rattle.schedule.specs.Answers.{runRules}
 use Rattle.schedule.specs.Numbers.{refusalNumbers}
 use Rattle.schedule.specs.declared.Refusal.{Refusal as Declared}
 use Rattle.laws.proofs.FieldLaws.{length-bytes, length-chain}
+use Rattle.laws.proofs.NumbersLaws.{refusal-injective}
 use Rattle.laws.proofs.Steps.{zeros-at}
 use Rattle.fields.specs.Put.{put}
 use Rattle.fields.proofs.PutLaws.{put-nil, put-next, put-out, length-put}
@@ -240,3 +241,17 @@ module _ (m : Model) (q : Choice) (judged : Judged) (ends : List ℕ) (ended : E
   -- where there is no refusal none breaks
   pub ended-success : Unrefused judged → firstBreak (runRules m q) ≡ none
   ended-success u = judged-none judged (firstBreak (runRules m q)) (ended .judgement) u
+
+-- no two judgements say the same
+pub judged-injective : (x y : Judged) → judgedNumbers x ≡ judgedNumbers y → x ≡ y
+judged-injective Judged.Succeeds Judged.Succeeds e = refl
+judged-injective Judged.Succeeds (Judged.Refused y) e = let z : _≡_ {A = ℕ} 0 1 = cc in absurd (omega arith)
+judged-injective Judged.Succeeds Judged.NotPlayed e = let z : _≡_ {A = ℕ} 0 1 = cc in absurd (omega arith)
+judged-injective (Judged.Refused x) Judged.Succeeds e = let z : _≡_ {A = ℕ} 0 1 = cc in absurd (omega arith)
+judged-injective (Judged.Refused x) (Judged.Refused y) e =
+    let same : refusalNumbers x ≡ refusalNumbers y = cc in
+    ap Judged.Refused (refusal-injective x y same)
+judged-injective (Judged.Refused x) Judged.NotPlayed e = let z : _≡_ {A = ℕ} 0 1 = cc in absurd (omega arith)
+judged-injective Judged.NotPlayed Judged.Succeeds e = let z : _≡_ {A = ℕ} 0 1 = cc in absurd (omega arith)
+judged-injective Judged.NotPlayed (Judged.Refused y) e = let z : _≡_ {A = ℕ} 0 1 = cc in absurd (omega arith)
+judged-injective Judged.NotPlayed Judged.NotPlayed e = refl
