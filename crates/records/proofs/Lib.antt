@@ -10,3 +10,4 @@ pub mod Forms
 pub mod GridPart
 pub mod Injective
 pub mod WriteLaws
+pub mod PlanWrites

@@ -15,12 +15,12 @@ use schedule::Refusal;
 ghost use mathlib.Core.Path.{_≡_};
 ghost use Prim.Native.Nat.{_+_, _≤_, _<_};
 ghost use lib.ListN.{length};
-ghost use Rattle.schedule.specs.Fields.{pair};
+ghost use Rattle.schedule.specs.Fields.{bytes, pair};
 ghost use Rattle.schedule.specs.Lent.{LiesAt};
 ghost use Rattle.schedule.specs.Rule.{break, firstBreak};
 ghost use Rattle.schedule.specs.Model.{model};
 ghost use Rattle.schedule.specs.Plan.{plan, planForm, planThreadRow, planActivityRow, gridAt, planGrid, planGridAt};
-ghost use Rattle.schedule.specs.Plan.{planLength, wordIn, wordRule};
+ghost use Rattle.schedule.specs.Plan.{planLength, tickAt, wordIn, wordRule};
 ghost use Rattle.fields.specs.Put.{put};
 ghost use Rattle.records.specs.Rows.{planSizesOf, timing, spanOf, horizonHolds, noneFrom};
 ghost use Rattle.records.specs.Writes.{headBytes};
@@ -186,6 +186,18 @@ pub fn put_activity_row(out: &mut [u8], threads: u8, a: Activity, row: Span)
 {
     let number = a.0;
     put_pair(out, activity_at(threads, number), row.start, row.end);
+}
+
+// The word of tick t, behind the rows of that many threads and activities.
+pub fn put_word(out: &mut [u8], threads: u8, activities: u8, t: u16, word: u32)
+    ensures { λ _. ⌜ now (out .exit)
+        ≡ put (gridAt threads activities + tickAt t) (bytes 4 word) (now (out .entry)) ⌝ }
+{
+    fields::put32(
+        out,
+        grid_at(threads, activities) + grid::tick_at(t as usize),
+        word,
+    );
 }
 
 // ---- rules 8 to 12 and 14
