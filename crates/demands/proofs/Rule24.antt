@@ -95,7 +95,7 @@ as-before = record { plain = λ s r. verdict-without-24 s r _; strict = λ s r. 
 -- ---- the number
 
 -- a rule's number is another
-abbrev Other : Rule → Type 0
+abbrev pub Other : Rule → Type 0
 Other r = ¬ (r .number ≡ retired)
 
 -- of the records' form
@@ -111,10 +111,10 @@ named-other m p [] = tt
 named-other m p (name ∷ names) = (λ e. rules-never-24 name (rule-number m p name ∙ e), named-other m p names)
 
 -- of what is tried behind a model's form rules
-behind-form : (s : List ℕ) (rules : List Rule) → AllRules Other rules → AllRules Other (modelForm s ++ rules)
+pub behind-form : (s : List ℕ) (rules : List Rule) → AllRules Other rules → AllRules Other (modelForm s ++ rules)
 behind-form s rules others = rules-append Other (modelForm s) rules (form-other (modelForm s) (model-numbers s)) others
 
-plan-other : (s r : List ℕ) → AllRules Other (planForm (model s) r)
+pub plan-other : (s r : List ℕ) → AllRules Other (planForm (model s) r)
 plan-other s r = form-other (planForm (model s) r) (plan-numbers (model s) r)
 
 checks-other : (s r : List ℕ) (names : List RuleRefusal)
@@ -141,7 +141,7 @@ break-other : (rules : List Rule) → AllSound rules → AllRules Other rules �
 break-other rules sound others x e =
     first-broken-number (λ k. ¬ (k ≡ retired)) rules x others (some-iff rules x sound .0 e)
 
-answer-other : {F : Type 0} (rules : List Rule) (pass : F) → AllSound rules → AllRules Other rules
+pub answer-other : {F : Type 0} (rules : List Rule) (pass : F) → AllSound rules → AllRules Other rules
     → AnswerNotRetired (answer (firstBreak rules) pass)
 answer-other rules pass sound others x e =
     first-broken-number (λ k. ¬ (k ≡ retired)) rules x others (answer-refused rules pass x sound .0 e)

@@ -187,7 +187,7 @@ rule-injective x y e =
     cc
 
 -- a number that none of them has is used by no refusal
-unused : (number : ℕ) → ((at : Place) → ¬ (refusalNumbers (numbered number at refusals) .number ≡ number))
+pub unused : (number : ℕ) → ((at : Place) → ¬ (refusalNumbers (numbered number at refusals) .number ≡ number))
     → (x : Refusal) → ¬ (refusalNumbers x .number ≡ number)
 unused number absent x e =
     let at : Place = record { a = refusalNumbers x .A; b = refusalNumbers x .B } in

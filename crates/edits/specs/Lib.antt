@@ -1,0 +1,4 @@
+pub mod Edits
+pub mod EditNumbers
+pub mod Statements
+pub mod EditCases
