@@ -1,11 +1,11 @@
-/* The six calls of the grid checker.
+/* The eight calls of the grid checker.
  *
  * Every record, file and the buffer is passed as a pointer and the number of bytes, and the list `rows` as a pointer and the
  * number of its rows, each an int32_t. No pointer may be null, even where the number is 0. `rows` is aligned as int32_t is;
- * no other pointer has to be aligned. The two records may overlap; neither `out` nor `rows` overlaps one of them. Only
- * grid_run and grid_lateness write, the one only into `out` and the other only into `rows`; with 16,553 bytes `out` is
- * never too short, and with 32 rows `rows` never is. The calls keep nothing, so that several threads may make them at
- * once, each with its own `out` or `rows`.
+ * no other pointer has to be aligned. Only four calls write: grid_run only into `out`, grid_lateness only into `rows`, and
+ * grid_mark and grid_clear only into `plan`. What a call writes into overlaps none of its records; two records that it only
+ * reads may overlap. With 16,553 bytes `out` is never too short, and with 32 rows `rows` never is. The calls keep nothing, so
+ * that several threads may make them at once, each with an `out`, `rows` or edited `plan` that no other one uses.
  */
 #ifndef GRID_H
 #define GRID_H
@@ -18,7 +18,7 @@ extern "C" {
 #endif
 
 /* number 0: accepted. first is the usage in core ticks, second the cores times the horizon, third the makespan, and length
- * the number of bytes of the run's plan (0 for a check).
+ * the number of bytes of the run's plan (0 for a check); of an edit all four are 0.
  * Otherwise number is the number of the refusal, first its A and second its B; third and length are 0. */
 typedef struct GridAnswer {
     uint32_t number;
@@ -54,6 +54,21 @@ GridAnswer grid_run(const uint8_t *model, size_t model_length,
 GridAnswer grid_lateness(const uint8_t *model, size_t model_length,
                          const uint8_t *choice, size_t choice_length,
                          int32_t *rows, size_t rows_length);
+
+/* Marks a tick of an activity in a plan: sets that activity's bit in the word of that tick. Its start then becomes its first
+ * marked tick and its end its last plus 1, whatever they were before, and no other byte of `plan` changes. `plan` does not
+ * overlap `model`. Refusals 1 to 7, 51 to 53 and 57 of the model, 8 to 12 and 14 of the plan, then 58 for an activity outside
+ * m, 59 for a tick outside H and 60 for a bit that is set already, these three with A and B 0, change no byte. None of 21 to
+ * 31 is tried. */
+GridAnswer grid_mark(const uint8_t *model, size_t model_length,
+                     uint8_t *plan, size_t plan_length,
+                     uint32_t activity, uint32_t tick);
+
+/* Clears a tick of an activity in a plan: as grid_mark, but the bit is cleared, 60 is for one that is clear already, and
+ * start and end both become 0 where no tick is marked any more. */
+GridAnswer grid_clear(const uint8_t *model, size_t model_length,
+                      uint8_t *plan, size_t plan_length,
+                      uint32_t activity, uint32_t tick);
 
 /* Of wrapped records, models behind 12 bytes: the length of it all (4 bytes, the most significant first), version 1, the
  * series (4), the issue (2), and 1 for withdrawn or 0 for live.

@@ -1,7 +1,9 @@
 // The exports for C and Rust: include/grid.h declares them.
+use edits::Edited;
 use numbers::refusal_numbers;
 use numbers::wrap_number;
 use schedule::Chosen;
+use schedule::Numbered;
 use schedule::Part;
 use schedule::Refusal;
 use schedule::RunVerdict;
@@ -13,11 +15,13 @@ ghost use lib.ListN.{length};
 ghost use Rattle.schedule.specs.Answers.{accepted, refused, plainVerdict, strictVerdict, runAnswer, runBuffer};
 ghost use Rattle.schedule.specs.Report.{reportAnswer, reportRows};
 ghost use Rattle.schedule.specs.Exchange.{pairPart, fileAnswer};
-ghost use Rattle.schedule.specs.Numbers.{refusalNumbers, verdictNumbers, runNumbers, wrapNumbers, partNumbers};
-ghost use Rattle.capi.specs.Exported.{refusalExported, verdictExported, runExported, partExported};
+ghost use Rattle.schedule.specs.Numbers.{refusalNumbers, numbersOf, verdictNumbers, runNumbers, wrapNumbers, partNumbers};
+ghost use Rattle.edits.specs.Edits.{marking, clearing, editAnswer, editBytes};
+ghost use Rattle.edits.specs.EditNumbers.{editedNumbers};
+ghost use Rattle.capi.specs.Exported.{refusalExported, verdictExported, runExported, partExported, editExported};
 
-// Number 0 for accepted, then usage, c times H, makespan, and the length of the run's plan (0 for a check); otherwise the
-// refusal's number, A, B, 0, 0.
+// Number 0 for accepted, then usage, c times H, makespan, and the length of the run's plan (0 for a check), or zeros for an edit;
+// otherwise the refusal's number, A, B, 0, 0.
 #[repr(C)]
 pub struct GridAnswer {
     pub number: u32,
@@ -41,7 +45,12 @@ pub struct GridPart {
 fn refusal(x: Refusal) -> GridAnswer
     ensures { λ r. ⌜ r ≡ refusalExported (refusalNumbers x) ⌝ }
 {
-    let said = refusal_numbers(x);
+    numbered(refusal_numbers(x))
+}
+
+fn numbered(said: Numbered) -> GridAnswer
+    ensures { λ r. ⌜ r ≡ refusalExported (numbersOf said) ⌝ }
+{
     GridAnswer {
         number: said.number,
         first: said.a,
@@ -81,6 +90,21 @@ fn run_answer(v: RunVerdict) -> GridAnswer
             }
         }
         RunVerdict::Refused(x) => refusal(x),
+    }
+}
+
+fn edit_answer(v: Edited) -> GridAnswer
+    ensures { λ r. ⌜ r ≡ editExported (editedNumbers v) ⌝ }
+{
+    match v {
+        Edited::Done => GridAnswer {
+            number: 0,
+            first: 0,
+            second: 0,
+            third: 0,
+            length: 0,
+        },
+        Edited::Refused(why) => numbered(edits::reason_numbers(why)),
     }
 }
 
@@ -173,4 +197,22 @@ pub extern "C" fn grid_choose(file: &[u8]) -> GridPart
         Chosen::Record(x) => part(x),
         Chosen::Refused(why, a) => part_refusal(why, a),
     }
+}
+
+// An activity marked at a tick of the lent plan.
+#[no_mangle]
+pub extern "C" fn grid_mark(model: &[u8], plan: &mut [u8], activity: u32, tick: u32) -> GridAnswer
+    ensures { λ r. ⌜ (r ≡ editExported (editAnswer (now (model .entry)) (now (plan .entry)) (marking activity tick)))
+        × (now (plan .exit) ≡ editBytes (now (model .entry)) (now (plan .entry)) (marking activity tick)) ⌝ }
+{
+    edit_answer(edits::mark(model, plan, activity, tick))
+}
+
+// An activity cleared at a tick of the lent plan.
+#[no_mangle]
+pub extern "C" fn grid_clear(model: &[u8], plan: &mut [u8], activity: u32, tick: u32) -> GridAnswer
+    ensures { λ r. ⌜ (r ≡ editExported (editAnswer (now (model .entry)) (now (plan .entry)) (clearing activity tick)))
+        × (now (plan .exit) ≡ editBytes (now (model .entry)) (now (plan .entry)) (clearing activity tick)) ⌝ }
+{
+    edit_answer(edits::clear(model, plan, activity, tick))
 }

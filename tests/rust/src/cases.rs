@@ -1,11 +1,13 @@
 //! Pairs of records for the comparison: sound ones, damaged ones, and plans that leave the rules in chosen places. A model
-//! stands with a plan for the checks or with a choice for the run and the report of lateness; a few pairs have the wrong
-//! one of the two. Models are of all versions, with one to four rounds, and many of those of version 3 have gangs.
+//! stands with a plan for the checks and the edits or with a choice for the run and the report of lateness; a few pairs have
+//! the wrong one of the two. Models are of all versions, with one to four rounds, and many of those of version 3 have gangs.
 
 mod damage;
 mod pages;
 mod plans;
+mod strokes;
 
+use crate::edits::Stroke;
 use crate::random::Random;
 use crate::records::{Choice, Model};
 pub(crate) use damage::{damage_model, FORM_RULES};
@@ -29,6 +31,9 @@ pub struct Case {
     pub buffer: Option<Vec<u8>>,
     /// The list that is lent to the report, as it is before the call; the report is asked where the run is.
     pub rows: Option<Vec<i32>>,
+    /// The calls that edit the second record, one after another; none where the two checks are not asked, and every second
+    /// time where they are.
+    pub strokes: Vec<Stroke>,
 }
 
 impl Case {
@@ -96,7 +101,9 @@ pub fn make(seed: u64, number: u64) -> Case {
         if left < share {
             let case = maker(random);
             let rows = case.buffer.as_ref().map(|_| rows(random));
-            return Case { kind: name, rows, ..case };
+            let edited = case.checked && random.one_in(2);
+            let strokes = if edited { strokes::list(random, &case.second) } else { Vec::new() };
+            return Case { kind: name, rows, strokes, ..case };
         }
         left -= share;
     }
@@ -149,10 +156,19 @@ fn plan_case(page: &Page) -> Case {
 
 /// A pair for no call yet.
 fn case(model: &Model, second: Vec<u8>) -> Case {
-    Case { kind: "", model: model.bytes(), page: Some(model.clone()), second, checked: false, buffer: None, rows: None }
+    Case {
+        kind: "",
+        model: model.bytes(),
+        page: Some(model.clone()),
+        second,
+        checked: false,
+        buffer: None,
+        rows: None,
+        strokes: Vec::new(),
+    }
 }
 
-/// A plan where the run wants a choice, or a choice where the checks want a plan; all four calls are asked.
+/// A plan where the run wants a choice, or a choice where the checks want a plan; all calls are asked.
 fn other_record(random: &mut Random) -> Case {
     let (page, mut case) = sound_case(random);
     if random.one_in(4) {

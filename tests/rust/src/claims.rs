@@ -1,5 +1,8 @@
-//! What 02 says of every pair and of every file of wrapped records, asked of an answer; the first claim that does not hold
-//! is named. The calls are arguments, so that both programs can be asked.
+//! What 02 says of every pair and of every file of wrapped records, asked of an answer, and in `edits` what it says of every
+//! list of mark and clear calls; the first claim that does not hold is named. The calls are arguments, so that both programs
+//! can be asked.
+
+pub mod edits;
 
 use crate::Part;
 

@@ -1,14 +1,16 @@
-//! An independent program of the papers' rules (`reference` and `exchange`), the exports of the proved code (`proved`) and
-//! what is needed to compare them. From this package's folder, where `rt` makes the archive as part of the build:
+//! An independent program of the papers' rules (`reference`, `edits` and `exchange`), the exports of the proved code
+//! (`proved`) and what is needed to compare them. From this package's folder, where `rt` makes the archive as part of the
+//! build:
 //!
-//! - `cargo test --release`: the paper's cases, pages of several rounds, gangs, wrapped models and the solutions of source
-//!   document 000, with both programs, every grid of small models with gangs, and random pages beside readings that are
-//!   nearly the paper's
-//! - `cargo run --release --bin compare`: many pairs of records and files, with a table of the answers reached
+//! - `cargo test --release`: the paper's cases, pages of several rounds, gangs, edited plans, wrapped models and the solutions
+//!   of source document 000, with both programs, every grid of small models with gangs, and random pages and edits beside
+//!   readings that are nearly the paper's
+//! - `cargo run --release --bin compare`: many pairs of records, lists of edits and files, with a table of the answers reached
 //! - `cargo run --release --bin bench`: the times of both
 
 pub mod cases;
 pub mod claims;
+pub mod edits;
 pub mod exchange;
 pub mod files;
 pub mod proved;
@@ -20,7 +22,7 @@ use exchange::Standing;
 use reference::{Figures, Refusal};
 
 /// The answer of an export. `number` is 0 for a pass, then come usage, cores times horizon, makespan and the length of
-/// the plan (0 for a check); otherwise it is the refusal's number, then come A, B, 0 and 0.
+/// the plan (0 for a check), or four zeros for an edit; otherwise it is the refusal's number, then come A, B, 0 and 0.
 #[repr(C)]
 #[derive(Clone, Copy, Debug, PartialEq, Eq)]
 pub struct Answer {
@@ -51,6 +53,15 @@ impl From<Result<(Figures, u32), Refusal>> for Answer {
     fn from(result: Result<(Figures, u32), Refusal>) -> Answer {
         match result {
             Ok((figures, length)) => Answer::accepted(figures.usage, figures.capacity, figures.makespan, length),
+            Err(refusal) => Answer::refused(refusal.number, refusal.a, refusal.b),
+        }
+    }
+}
+
+impl From<Result<(), Refusal>> for Answer {
+    fn from(result: Result<(), Refusal>) -> Answer {
+        match result {
+            Ok(()) => Answer::accepted(0, 0, 0, 0),
             Err(refusal) => Answer::refused(refusal.number, refusal.a, refusal.b),
         }
     }

@@ -56,6 +56,12 @@ pub fn form(model: &[u8]) -> Result<(), Refusal> {
     read_model(model).map(|_| ())
 }
 
+/// The form rules of a model, and then those of a plan: 8 to 12 and 14.
+pub fn well_formed(model: &[u8], plan: &[u8]) -> Result<(), Refusal> {
+    let model = read_model(model)?;
+    read_plan(&model, plan).map(|_| ())
+}
+
 /// efe of each activity, for a plan that passes 8 to 14.
 pub fn earliest_starts(model: &[u8], plan: &[u8]) -> Result<Vec<u32>, Refusal> {
     let model = read_model(model)?;

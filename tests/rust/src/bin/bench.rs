@@ -1,17 +1,17 @@
 //! Times the exports against the reference.
 //!
 //! `bench` prints the tables. `bench CALL WHICH PAGE HORIZON TIMES` makes one call many times, for a profiler: CALL is
-//! plain, strict, run or lateness, WHICH is proved or reference, PAGE is a name from the table. `bench choose WHICH FILE
-//! RECORDS TIMES` does so with a file of wrapped models: FILE is copies or issues.
+//! plain, strict, run, lateness or stroke, WHICH is proved or reference, PAGE is a name from the table. `bench choose WHICH
+//! FILE RECORDS TIMES` does so with a file of wrapped models: FILE is copies or issues.
 
 use std::hint::black_box;
 use std::process::ExitCode;
 use std::time::{Duration, Instant};
 
 use grid_tests::records::{ActivityRow, Choice, Model, Rounds, ThreadRow, Wrapped, NO_LOOP};
-use grid_tests::{exchange, proved, reference, Answer, Part};
+use grid_tests::{edits, exchange, proved, reference, Answer, Part};
 
-/// A page with its records; the plan is the run's own, so that all four calls accept.
+/// A page with its records; the plan is the run's own, so that the checks, the run and the report accept.
 struct Page {
     model: Vec<u8>,
     choice: Vec<u8>,
@@ -239,10 +239,31 @@ fn choose(which: &str, file: &[u8]) -> Part {
     }
 }
 
-const CALLS: [&str; 4] = ["plain", "strict", "run", "lateness"];
+const CALLS: [&str; 5] = ["plain", "strict", "run", "lateness", "stroke"];
 const SIDES: [&str; 2] = ["proved", "reference"];
 
-/// Makes one call; `out` is as long as the plan.
+/// What is lent to the calls of this name: the plan for strokes, else a buffer as long as it is.
+fn lent(call: &str, page: &Page) -> Vec<u8> {
+    if call == "stroke" {
+        page.plan.clone()
+    } else {
+        vec![0; page.plan.len()]
+    }
+}
+
+/// Marks the last tick of the last activity, or clears it where it is marked, so that no call is refused.
+fn stroke(which: &str, model: &[u8], plan: &mut [u8]) -> Answer {
+    let (activity, tick) = (u32::from(plan[6]) - 1, u32::from(u16::from_be_bytes([plan[7], plan[8]])) - 1);
+    let last_word = plan.last_chunk().map_or(0, |four| u32::from_be_bytes(*four));
+    match (which, last_word >> activity & 1) {
+        ("proved", 0) => proved::mark(model, plan, activity, tick),
+        ("proved", _) => proved::clear(model, plan, activity, tick),
+        (_, 0) => edits::mark(model, plan, activity, tick).into(),
+        (_, _) => edits::clear(model, plan, activity, tick).into(),
+    }
+}
+
+/// Makes one call; `out` is what was lent to it.
 fn call(call: &str, which: &str, page: &Page, out: &mut [u8]) -> Answer {
     let (model, choice, plan) = (black_box(&page.model), black_box(&page.choice), black_box(&page.plan));
     match (call, which) {
@@ -254,6 +275,7 @@ fn call(call: &str, which: &str, page: &Page, out: &mut [u8]) -> Answer {
         ("strict", "reference") => reference::check_strict(model, plan).into(),
         ("run", "reference") => reference::run(model, choice, out).into(),
         ("lateness", "reference") => reference::lateness(model, choice, black_box(&mut [0; 32])).into(),
+        ("stroke", _) => stroke(which, model, black_box(out)),
         _ => panic!("no such call"),
     }
 }
@@ -279,7 +301,7 @@ fn least(mut once: impl FnMut(&str)) -> [f64; 2] {
 }
 
 fn time(name: &str, page: &Page) -> [f64; 2] {
-    let mut out = vec![0; page.plan.len()];
+    let mut out = lent(name, page);
     let least = least(|which| {
         let answer = black_box(call(name, which, page, &mut out));
         assert_eq!(answer.number, 0, "{name} of the {which} refused a page");
@@ -344,6 +366,7 @@ fn table() {
     println!("unrolled: the version 1 record of the same model");
     println!("gangs: 16 short activities before 16 long ones of widths 1 to 4; cores 8, threads 8, activities 32");
     println!("narrow: the same with every width 1");
+    println!("stroke: a call that marks the last tick of the last activity, and one that clears it, in turn");
 }
 
 /// One call, many times.
@@ -370,7 +393,7 @@ fn repeat(words: &[String]) -> Option<()> {
         return None;
     }
     let page = page(page_name, horizon);
-    let mut out = vec![0; page.plan.len()];
+    let mut out = lent(name, &page);
     for _ in 0..times {
         black_box(call(name, which, &page, &mut out));
     }
@@ -382,7 +405,7 @@ fn main() -> ExitCode {
     if words.is_empty() {
         table();
     } else if repeat(&words).is_none() {
-        eprintln!("usage: bench [plain|strict|run|lateness proved|reference PAGE HORIZON TIMES]");
+        eprintln!("usage: bench [plain|strict|run|lateness|stroke proved|reference PAGE HORIZON TIMES]");
         eprintln!("       bench [choose proved|reference FILE RECORDS TIMES]");
         return ExitCode::from(2);
     }

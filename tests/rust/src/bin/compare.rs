@@ -1,10 +1,12 @@
 //! Compares the exports with the reference over many pairs of records: a model and a plan by both checks, a model and a
 //! choice by the run and by the report of lateness, with the whole of what these two were lent; the report is then held
 //! against the exported run, and a page of version 2 or 3 against the record of its unrolled model, and against that of
-//! version 2 where version 3 has no width above 1. With each pair comes a pair or a file of wrapped models, of which the
-//! exports are asked which one stands; what they answer is then held against what 02 says of every file. It stops at the
-//! first difference, prints that case and exits with 1. It prints how often each call gave each answer, of all models and of
-//! those with a gang, and exits with 1 if one that the call can give came fewer than a hundred times.
+//! version 2 where version 3 has no width above 1. With many plans comes a list of calls that mark and clear ticks, with the
+//! whole plan after each of them; the list is then held against what 02 says of every list. With each pair comes a pair or a
+//! file of wrapped models, of which the exports are asked which one stands; what they answer is then held against what 02 says
+//! of every file. It stops at the first difference, prints that case and exits with 1. It prints how often each call gave each
+//! answer, of all models and of those with a gang, and exits with 1 if one that the call can give came fewer than a hundred
+//! times.
 //!
 //! `compare [CASES]` tries cases 0 to CASES - 1, `compare FIRST..END` those from FIRST to END - 1, of which no number of
 //! answers is asked.
@@ -14,13 +16,15 @@ use std::sync::atomic::{AtomicBool, Ordering};
 use std::thread;
 
 use grid_tests::cases::{self, Case};
+use grid_tests::claims::edits::{self, List};
 use grid_tests::claims::{self, Calls};
+use grid_tests::edits::Stroke;
 use grid_tests::files::{self, Given};
 use grid_tests::{exchange, proved, reference, Answer};
 
 const SEED: u64 = 2011;
 const CASES: u64 = 500_000;
-/// Bytes kept around the lent buffer, and rows around the lent list, to see that nothing outside them is written.
+/// Bytes kept around the lent buffer or plan, and rows around the lent list, to see that nothing outside them is written.
 const MARGIN: usize = 64;
 const MARGIN_BYTE: u8 = 0x5c;
 const MARGIN_ROW: i32 = 0x5c5c_5c5c;
@@ -30,10 +34,24 @@ const LONGEST_PLAN: usize = 16_553;
 const DASH: i32 = -2_147_483_648;
 
 /// The calls, and once more those whose model has a width above 1.
-const CALLS: [&str; 10] =
-    ["plain", "strict", "run", "lateness", "stands", "choose", "plain*", "strict*", "run*", "lateness*"];
+const CALLS: [&str; 14] = [
+    "plain",
+    "strict",
+    "run",
+    "lateness",
+    "mark",
+    "clear",
+    "stands",
+    "choose",
+    "plain*",
+    "strict*",
+    "run*",
+    "lateness*",
+    "mark*",
+    "clear*",
+];
 /// How much later a call stands once more.
-const GANGS: usize = 6;
+const GANGS: usize = 8;
 /// How often each answer that a call can give must come.
 const LEAST: u64 = 100;
 /// What a model is refused by.
@@ -43,6 +61,7 @@ const CHECKED: &[usize] = &[0, 8, 9, 10, 11, 12, 14, 21, 22, 23, 25, 26, 27, 28,
 const CHECKED_STRICTLY: &[usize] = &[30, 31];
 const RUN: &[usize] = &[0, 8, 9, 10, 11, 12, 13, 41, 42, 43];
 const LATENESS: &[usize] = &[0, 8, 9, 10, 11, 12, 13, 42, 43, 50];
+const EDITED: &[usize] = &[0, 8, 9, 10, 11, 12, 14, 58, 59, 60];
 const EXCHANGED: &[usize] = &[0, 54, 55, 56];
 
 /// How often each number was answered, for each call.
@@ -64,7 +83,8 @@ impl Counts {
             1 => &[MODEL, CHECKED, CHECKED_STRICTLY],
             2 => &[MODEL, RUN],
             3 => &[MODEL, LATENESS],
-            4 | 5 => &[EXCHANGED],
+            4 | 5 => &[MODEL, EDITED],
+            6 | 7 => &[EXCHANGED],
             _ => return Counts::can_answer(call - GANGS, number) && !MODEL.contains(&number),
         };
         answers.iter().any(|numbers| numbers.contains(&number))
@@ -121,12 +141,13 @@ fn hex(bytes: &[u8]) -> String {
 /// A difference, ready to be printed.
 fn difference(case: &Case, call: &str, ours: impl std::fmt::Debug, theirs: impl std::fmt::Debug) -> String {
     format!(
-        "{call}: {}\nmodel {}\nsecond {}\nbuffer {}\nrows {}\nreference {ours:?}\nexport {theirs:?}",
+        "{call}: {}\nmodel {}\nsecond {}\nbuffer {}\nrows {}\nstrokes {:?}\nreference {ours:?}\nexport {theirs:?}",
         case.kind,
         hex(&case.model),
         hex(&case.second),
         case.buffer.as_deref().map_or("none".to_string(), hex),
         case.rows.as_ref().map_or("none".to_string(), |rows| format!("{rows:?}")),
+        case.strokes,
     )
 }
 
@@ -150,6 +171,9 @@ fn compare(case: &Case, counts: &mut Counts) -> Result<(), String> {
             run_again(case)?;
         }
     }
+    if !case.strokes.is_empty() {
+        compare_edits(case, &mut answered)?;
+    }
     if let Some(before) = &case.buffer {
         let mut expected = before.clone();
         let expected_answer = reference::run(model, second, &mut expected).into();
@@ -171,7 +195,32 @@ fn compare(case: &Case, counts: &mut Counts) -> Result<(), String> {
         }
         beside_the_run(case, before, answer, &rows)?;
     }
-    case.alike().iter().try_for_each(|other| answered_alike(case, other))
+    answered_alike(case)
+}
+
+/// Both programs make the calls of the list, each on its own plan: the plans, and the bytes around them, are the same after
+/// every call, and as 02 says of every list.
+fn compare_edits(
+    case: &Case,
+    mut answered: impl FnMut(usize, Answer, Answer) -> Result<(), String>,
+) -> Result<(), String> {
+    let (model, plan) = (&case.model, MARGIN..MARGIN + case.second.len());
+    let mut expected = vec![MARGIN_BYTE; plan.end + MARGIN];
+    expected[plan.clone()].copy_from_slice(&case.second);
+    let mut space = expected.clone();
+    let mut calls = Vec::new();
+    for &stroke in &case.strokes {
+        let expected_answer = edits::REFERENCE.make(model, &mut expected[plan.clone()], stroke);
+        let answer = edits::EXPORTS.make(model, &mut space[plan.clone()], stroke);
+        answered(if stroke.marks { 4 } else { 5 }, expected_answer, answer)?;
+        if space != expected {
+            return Err(difference(case, &format!("the plan after {stroke:?}"), hex(&expected), hex(&space)));
+        }
+        calls.push((stroke, answer));
+    }
+    let list = List { model, before: &case.second, calls: &calls, after: &space[plan] };
+    edits::of_list(edits::EXPORTS, list)
+        .map_err(|claim| difference(case, "the list of edits", format!("of every list: {claim}"), &calls))
 }
 
 const EXPORTS: Calls = Calls { stands: proved::stands, choose: proved::choose };
@@ -179,8 +228,8 @@ const EXPORTS: Calls = Calls { stands: proved::stands, choose: proved::choose };
 /// The exports tell which wrapped record stands as the reference does, and as 02 says of every pair and file.
 fn compare_wrapped(case: &files::Case, counts: &mut Counts) -> Result<(), String> {
     let (call, expected, answer) = match &case.given {
-        Given::Pair(first, second) => (4, exchange::stands(first, second), proved::stands(first, second)),
-        Given::File(file) => (5, exchange::choose(file), proved::choose(file)),
+        Given::Pair(first, second) => (6, exchange::stands(first, second), proved::stands(first, second)),
+        Given::File(file) => (7, exchange::choose(file), proved::choose(file)),
     };
     let text = || match &case.given {
         Given::Pair(first, second) => format!("first {}\nsecond {}", hex(first), hex(second)),
@@ -198,19 +247,25 @@ fn compare_wrapped(case: &files::Case, counts: &mut Counts) -> Result<(), String
     claimed.map_err(|claim| format!("{}: {}\n{}\nnot so: {claim}\n{answer:?}", CALLS[call], case.kind, text()))
 }
 
-/// The exports answer and write the same for the model and for this one.
-fn answered_alike(case: &Case, other: &[u8]) -> Result<(), String> {
+/// The exports answer and write the same for the model and for those that must be answered alike.
+fn answered_alike(case: &Case) -> Result<(), String> {
     let second = &case.second;
     let answers = |model: &[u8]| {
         let mut buffer = case.buffer.clone().unwrap_or_default();
         let mut rows = case.rows.clone().unwrap_or_default();
+        let mut plan = second.clone();
         let checked = [proved::check_plain(model, second), proved::check_strict(model, second)];
         let filled = [proved::run(model, second, &mut buffer), proved::lateness(model, second, &mut rows)];
-        (checked, filled, buffer, rows)
+        let edit = |&stroke: &Stroke| edits::EXPORTS.make(model, &mut plan, stroke);
+        let edited: Vec<Answer> = case.strokes.iter().map(edit).collect();
+        (checked, filled, edited, buffer, rows, plan)
     };
-    let (page, alike) = (answers(&case.model), answers(other));
-    if page != alike {
-        return Err(difference(case, &format!("beside the model {}", hex(other)), alike, page));
+    let mut page = None;
+    for other in case.alike() {
+        let (page, alike) = (page.get_or_insert_with(|| answers(&case.model)), answers(&other));
+        if *page != alike {
+            return Err(difference(case, &format!("beside the model {}", hex(&other)), alike, page));
+        }
     }
     Ok(())
 }
@@ -326,7 +381,7 @@ fn main() -> ExitCode {
     if !same {
         return ExitCode::FAILURE;
     }
-    println!("{0} pairs, and {0} pairs and files of wrapped models, without a difference", end - first);
+    println!("{0} pairs with edits, and {0} pairs and files of wrapped models, without a difference", end - first);
     counts.print();
     // A part of the cases need not reach every answer.
     if word.contains("..") {

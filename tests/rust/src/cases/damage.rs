@@ -30,7 +30,7 @@ pub(super) fn random_bytes(random: &mut Random) -> Case {
     }
     let length = random.below(60);
     let buffer = Some(random.bytes(length));
-    Case { kind: "", model, page: None, second, checked: true, buffer, rows: None }
+    Case { kind: "", model, page: None, second, checked: true, buffer, rows: None, strokes: Vec::new() }
 }
 
 /// Where the rows of a model of this version begin.
