@@ -1,23 +1,26 @@
-// Both checks, the run, the held view, the splitter, the report and the choice of wrapped records on the stored cases. CASES.md
-// says what each case shows.
+// Both checks, the run, the held view, the splitter, the report, the choice of wrapped records and the edits on the stored cases.
+// CASES.md says what each case shows.
 //
 // data/cases holds how many cases of the checks there are, then for each its model and its plan; then how many cases of
 // the run, and for each its model, its choice and the buffer that is lent; then how many cases of the view, and for each
 // its model, its plan and the tick; then how many cases of a view that is held, and for each its model, its plan and three
 // ticks; then how many cases of the splitter, and for each its input; then how many cases of the report, and for each its
 // model, its choice and how many rows are lent; then how many pairs of wrapped records, and for each the two; then how many
-// files of them, and for each the file. Each record, input and file stands behind its length. These numbers take 4 bytes
-// each, a tick 8, big-endian. For each case a line with its number, then the lines that gridcheck, gridrun or gridlate prints
+// files of them, and for each the file; then how many cases of edits, and for each its model, its plan and how many calls, and
+// for each of these 1 for a mark or 0 for a clear, the activity and the tick. Each record, input and file stands behind its
+// length. These numbers take 4 bytes each, a tick of a view 8, big-endian. For each case a line with its number, then the lines that gridcheck, gridrun or gridlate prints
 // of it; of a run also the buffer afterwards, byte by byte in decimal; of a view what its making answers, and at each tick its
 // word, in decimal, or past; of the splitter the bytes of the two records; of a report also the list afterwards; of a pair
 // which one stands and of a file which record is chosen, from which byte on and how many, or the refusal, and the bytes that
-// are handed back.
+// are handed back; of edits what each call answers, and the plan afterwards.
+use edits::Edited;
 use libc::STDOUT_FILENO;
 use numbers::refusal_numbers;
 use numbers::smaller;
 use numbers::wrap_number;
 use records::Pass;
 use schedule::Chosen;
+use schedule::Numbered;
 use schedule::Part;
 use schedule::Refusal;
 use schedule::Standing;
@@ -38,6 +41,7 @@ enum Kind {
     Report,
     Pair,
     File,
+    Edits,
 }
 
 // The next number of the file, 0 past its end.
@@ -125,7 +129,10 @@ fn next_tick(fd: i32) -> usize {
 
 // Prints a refusal's number and place.
 fn print_refused(x: Refusal) {
-    let said = refusal_numbers(x);
+    print_numbers(refusal_numbers(x));
+}
+
+fn print_numbers(said: Numbered) {
     io::write_all(STDOUT_FILENO, b"refused ");
     io::print_decimal(STDOUT_FILENO, said.number as u64);
     io::write_all(STDOUT_FILENO, b" ");
@@ -342,6 +349,48 @@ fn next_file(fd: i32) {
     print_bytes(b"part", exchange::chosen(&file[..n]));
 }
 
+// Prints what a mark or a clear answers.
+fn print_edited(answer: Edited) {
+    match answer {
+        Edited::Done => {
+            io::write_all(STDOUT_FILENO, b"done\n");
+        }
+        Edited::Refused(why) => print_numbers(edits::reason_numbers(why)),
+    }
+}
+
+// Reads the next call, a mark or a clear, and makes it.
+fn next_call(fd: i32, model: &[u8], plan: &mut [u8]) -> Edited {
+    let marks = next_number(fd) == 1;
+    let activity = next_number(fd);
+    let tick = next_number(fd);
+    if marks {
+        edits::mark(model, plan, activity, tick)
+    } else {
+        edits::clear(model, plan, activity, tick)
+    }
+}
+
+// Reads the next calls on a plan, as many as the file says, and prints what each answers, and the plan afterwards.
+fn next_calls(fd: i32, model: &[u8], plan: &mut [u8]) {
+    let count = next_number(fd);
+    let mut k = 0;
+    while k < count {
+        print_edited(next_call(fd, model, plan));
+        k += 1;
+    }
+    print_bytes(b"plan", plan);
+}
+
+// Reads the next case of edits and prints it.
+fn next_edits(fd: i32) {
+    let mut model = [0u8; 1024];
+    let mut plan = [0u8; 17189];
+    let m = next_record(fd, &mut model);
+    let p = next_record(fd, &mut plan);
+    next_calls(fd, &model[..m], &mut plan[..p]);
+}
+
 // Reads the next case of a kind and prints what its call answers.
 fn next(fd: i32, kind: Kind) {
     match kind {
@@ -353,6 +402,7 @@ fn next(fd: i32, kind: Kind) {
         Kind::Report => next_report(fd),
         Kind::Pair => next_pair(fd),
         Kind::File => next_file(fd),
+        Kind::Edits => next_edits(fd),
     }
 }
 
@@ -381,5 +431,6 @@ fn main() {
     all(fd, Kind::Report);
     all(fd, Kind::Pair);
     all(fd, Kind::File);
+    all(fd, Kind::Edits);
     libc::close(fd);
 }
