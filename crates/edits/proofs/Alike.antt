@@ -1,7 +1,6 @@
 -- A page of several rounds is edited as the record of its unrolled model is: the same is tried, and the same is left.
 -- Assumes nothing.
-use Prim.Native.Nat.{ℕ}
-use mathlib.Core.List.{List, _++_}
+use mathlib.Core.List.{_++_}
 use mathlib.Core.Option.{Option}
 use mathlib.Core.Path.{_≡_, ap}
 use Rattle.schedule.specs.Rule.{Refusal}

@@ -4,12 +4,12 @@ use Prim.Native.Nat.{ℕ, _≤_, _<_}
 use native.Mathlib.Decide.{decLt}
 use native.Mathlib.Omega.{arith}
 use mathlib.Core.Bool.{Bool, true, false, not, cond}
-use mathlib.Core.List.{List, [], _∷_, _++_, append-assoc}
+use mathlib.Core.List.{List, [], _++_, append-assoc}
 use mathlib.Core.Logic.{_↔_, Iff·and, Iff·trans}
-use mathlib.Core.Option.{Option, some, none}
+use mathlib.Core.Option.{Option, none}
 use mathlib.Core.Path.{_≡_, refl, sym, ap, _∙_}
 use lib.Dec.{T, ltb, ltb→lt, lt→ltb}
-use Rattle.schedule.specs.Rule.{Refusal, firstBreak, AllHold, FirstBroken}
+use Rattle.schedule.specs.Rule.{Refusal, firstBreak}
 use Rattle.schedule.specs.Model.{Model, model, modelForm}
 use Rattle.schedule.specs.Plan.{Plan, plan, active, planForm, planBytes}
 use Rattle.schedule.specs.Answers.{Answer, accepted, refused, answer, MeetsForm, WellFormed}
@@ -22,7 +22,7 @@ use Rattle.records.specs.Reads.{pick}
 use Rattle.records.proofs.Reading.{rule-picked, rule-end}
 use Rattle.edits.specs.declared.Edit.{Edit}
 use Rattle.edits.specs.Edits.{rule58, rule59, rule60, editRules, editChecks, editAnswer, ifUnrefused, editBytes, editedPlan}
-use Rattle.edits.specs.Statements.{Tried, EditsAreTried, refusedBy, InGrid, AlreadySo, Answered, EditsAreAnswered}
+use Rattle.edits.specs.Statements.{EditsAreTried, refusedBy, InGrid, EditsAreAnswered}
 
 -- ---- the tests
 

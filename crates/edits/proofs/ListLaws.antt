@@ -1,20 +1,20 @@
 -- Every list of calls: what one unrefused edit leaves, and what the edits behind it leave of that.
 -- Assumes nothing.
-use Prim.Native.Nat.{ℕ, _+_, _*_, _≤_, _<_}
+use Prim.Native.Nat.{ℕ, _+_, _≤_, _<_}
 use native.Mathlib.Decide.{decLt, ℕ-discrete}
 use native.Mathlib.Omega.{arith}
 use mathlib.Core.List.{List, [], _∷_, _++_}
 use mathlib.Core.Logic.{_⊎_, inl, inr, ⊎-elim}
-use mathlib.Core.Path.{_≡_, refl, sym, ap, ap₂, subst, _∙_}
+use mathlib.Core.Path.{_≡_, refl, sym, ap, subst, _∙_}
 use lib.Dec.{T}
 use lib.ListN.{length, take, drop, getD, length-take, length-drop}
 use lib.Seq.{ext-getD, getD-take, getD-drop}
 use Rattle.schedule.specs.Fields.{field, Bytes}
-use Rattle.schedule.specs.Plan.{Plan, plan, active, planThreadRow, planActivityRow, gridAt, tickAt}
+use Rattle.schedule.specs.Plan.{plan, active, planThreadRow, planActivityRow}
 use Rattle.schedule.specs.Answers.{Answer, accepted, refused}
 use Rattle.laws.proofs.FieldLaws.{field-take, field-drop}
 use Rattle.edits.specs.declared.Edit.{Edit}
-use Rattle.edits.specs.Edits.{editAnswer, editBytes, editedBy, answersTo, unrefusedBy, unrefused, ifUnrefused, editedPlan}
+use Rattle.edits.specs.Edits.{editAnswer, editBytes, editedBy, answersTo, unrefusedBy, ifUnrefused, editedPlan}
 use Rattle.edits.specs.Statements.{Marked, RowCounted, Elsewhere, EditMade, SomeOf, NoneOf, Of, On, rowBytes, AfterEdits, EveryList}
 use Rattle.edits.proofs.AnswerLaws.{edits-are-tried}
 use Rattle.edits.proofs.OneEdit.{in-plan, after-bytes, back, edit-made}

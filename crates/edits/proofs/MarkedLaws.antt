@@ -11,7 +11,7 @@ use borrow.Author.Tests.{lt-ltb, le-ltb, eq-eqb, ne-eqb}
 use Rattle.schedule.specs.Bounded.{lowest, greatest}
 use Rattle.laws.proofs.Counting.{decT, T-true, T-false}
 use Rattle.laws.proofs.Lowest.{Lowest, Clear, lowest-is, lowest-unique, lowest-ext, found-none, clear-more}
-use Rattle.laws.proofs.Steps.{greatest-next, greatest-start}
+use Rattle.laws.proofs.Steps.{greatest-next}
 use Rattle.laws.proofs.Sums.{greatest-ext, greatest-bound, greatest-each}
 use Rattle.edits.specs.Edits.{firstMarked, pastMarked}
 

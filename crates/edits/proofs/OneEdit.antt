@@ -1,12 +1,12 @@
 -- One unrefused edit: the bytes that it leaves in the plan, and what they say.
 -- Assumes nothing.
-use Prim.Native.Nat.{ℕ, zero, suc, _+_, _*_, _^_, _≤_, _<_}
+use Prim.Native.Nat.{ℕ, zero, suc, _+_, _^_, _≤_, _<_}
 use native.Mathlib.Decide.{decLt}
 use native.Mathlib.Omega.{arith}
-use mathlib.Core.Bool.{Bool, true, false, cond}
+use mathlib.Core.Bool.{Bool, cond}
 use mathlib.Core.List.{List}
-use mathlib.Core.Logic.{_⊎_, inl, inr, ⊎-elim}
-use mathlib.Core.Path.{_≡_, refl, sym, ap, ap₂, subst, _∙_}
+use mathlib.Core.Logic.{inl, inr}
+use mathlib.Core.Path.{_≡_, refl, sym, ap, subst, _∙_}
 use lib.Dec.{T, eqb}
 use lib.ListN.{length, getD, List·getD-eq-default}
 use borrow.Author.Tests.{eq-eqb}
@@ -22,10 +22,10 @@ use Rattle.laws.proofs.PlanForm
 use Rattle.laws.proofs.PlanForm.{form-says, written-form}
 use Rattle.fields.specs.Put.{put}
 use Rattle.fields.proofs.PutLaws.{Outside, put-off, length-put}
-use Rattle.records.proofs.PlanWrites.{withWord, plan-fits, plan-whole, row-put, word-put}
+use Rattle.records.proofs.PlanWrites.{withWord, row-fits, word-fits, plan-fits, plan-whole, row-put, word-put}
 use Rattle.edits.specs.declared.Edit.{Edit}
 use Rattle.edits.specs.Edits.{wordWith, editedWord, firstMarked, pastMarked, editedPlan, editAnswer, ifUnrefused, editBytes}
-use Rattle.edits.specs.Statements.{Marked, FirstMarked, LastMarked, RowCounted, Elsewhere, EditMade, EditsAreMade}
+use Rattle.edits.specs.Statements.{RowCounted, Elsewhere, EditMade, EditsAreMade}
 use Rattle.edits.proofs.MarkedLaws.{first-is, first-none, first-le, past-is, past-none, past-le}
 use Rattle.edits.proofs.BitLaws.{word-lt, word-elsewhere, that-bit, other-bit}
 use Rattle.edits.proofs.AnswerLaws.{Passed, passed}
@@ -37,25 +37,17 @@ abbrev pub marked : Plan → Edit → ℕ → Bool
 marked p e t = bit (editedWord p e t) (e .activity)
 
 -- its parts fit their bytes
-pub one-of : (t : Bool) (k x y : ℕ) → x < k → y < k → cond t x y < k
-one-of true k x y h _ = h
-one-of false k x y _ h = h
+pub worded-fits : (p : Plan) (e : Edit) → Fits p → e .tick < p .horizon
+    → Fits (withWord p (e .tick) (wordWith e (p .word (e .tick))))
+worded-fits p e fits t =
+    word-fits p (e .tick) (wordWith e (p .word (e .tick))) fits (word-lt e (p .word (e .tick)) (fits .word (e .tick) t))
 
-pub edited-fits : (p : Plan) (e : Edit) → Fits p → e .tick < p .horizon → Fits (editedPlan p e)
+edited-fits : (p : Plan) (e : Edit) → Fits p → e .tick < p .horizon → Fits (editedPlan p e)
 unfolding editedPlan editedWord
-edited-fits p e fits t = record {
-  threads = fits .threads;
-  activities = fits .activities;
-  horizon = fits .horizon;
-  length = fits .length;
-  release = fits .release;
-  period = fits .period;
-  start = λ a l. one-of (eqb a (e .activity)) 65536 _ _ (omega (arith, fits .horizon, first-le (p .horizon) (marked p e)))
-      (fits .start a l);
-  end = λ a l. one-of (eqb a (e .activity)) 65536 _ _ (omega (arith, fits .horizon, past-le (p .horizon) (marked p e)))
-      (fits .end a l);
-  word = λ u l. one-of (eqb u (e .tick)) (256 ^ 4) _ _ (word-lt e (p .word (e .tick)) (fits .word (e .tick) t)) (fits .word u l);
-}
+edited-fits p e fits t =
+    row-fits (withWord p (e .tick) (wordWith e (p .word (e .tick)))) (e .activity) (firstMarked (p .horizon) (marked p e))
+    (pastMarked (p .horizon) (marked p e)) (worded-fits p e fits t)
+    (omega (arith, fits .horizon, first-le (p .horizon) (marked p e))) (omega (arith, fits .horizon, past-le (p .horizon) (marked p e)))
 
 -- its bytes are the old ones with one word written, and then one row
 pub edited-puts : (p : Plan) (e : Edit) → e .activity < p .activities → e .tick < p .horizon
@@ -162,8 +154,8 @@ module _ (s r : List ℕ) (e : Edit) (b : Bytes r) (done : editAnswer s r e ≡ 
   pub back : ReadsFrom (editedPlan (plan r) e) (editBytes s r e)
   back = rw left (reads-back (editedPlan (plan r) e) fits)
 
-  word-fits : plan r .word (e .tick) < 2 ^ 32
-  word-fits = plan-fits r b .word (e .tick) (in-plan .1)
+  word-small : plan r .word (e .tick) < 2 ^ 32
+  word-small = plan-fits r b .word (e .tick) (in-plan .1)
 
   still-formed : WellFormed s (editBytes s r e)
   unfolding editedPlan
@@ -171,7 +163,7 @@ module _ (s r : List ℕ) (e : Edit) (b : Bytes r) (done : editAnswer s r e ≡ 
       rw left
       (written-form (model s) (editedPlan (plan r) e) fits (w .threads) (w .activities) (w .horizon) (w .in-range) (λ t l c k h x.
       w .words-within t l c k h
-      (subst T (other-bit (plan r) e low word-fits t c (λ same. omega (arith, same .1, ok .activity))) x)))
+      (subst T (other-bit (plan r) e low word-small t c (λ same. omega (arith, same .1, ok .activity))) x)))
 
   after-word : (t : ℕ) → plan (editBytes s r e) .word t ≡ editedWord (plan r) e t
   unfolding editedPlan
@@ -199,8 +191,8 @@ module _ (s r : List ℕ) (e : Edit) (b : Bytes r) (done : editAnswer s r e ≡ 
 
   pub edit-made : EditMade s r e
   edit-made = record {
-    that-bit = after-bit (e .tick) (e .activity) ∙ that-bit (plan r) e low word-fits;
-    other-bits = λ t a other. after-bit t a ∙ other-bit (plan r) e low word-fits t a other;
+    that-bit = after-bit (e .tick) (e .activity) ∙ that-bit (plan r) e low word-small;
+    other-bits = λ t a other. after-bit t a ∙ other-bit (plan r) e low word-small t a other;
     row = counted;
     size = same-size;
     other-bytes = other-bytes;

@@ -1,13 +1,10 @@
 -- The edit as the code makes it: the tick's word, then the row counted from the words as they are; and what the calls around it
 -- hand on.
 -- Assumes nothing.
-use Prim.Native.Nat.{ℕ, _+_, _^_, _<_}
-use native.Mathlib.Omega.{arith}
-use mathlib.Core.Bool.{Bool}
+use Prim.Native.Nat.{ℕ, _+_, _<_}
 use mathlib.Core.List.{List, _++_, append-assoc}
-use mathlib.Core.Option.{Option, some, none}
-use mathlib.Core.Path.{_≡_, refl, sym, ap, ap₂, _∙_}
-use lib.Dec.{eqb}
+use mathlib.Core.Option.{Option}
+use mathlib.Core.Path.{_≡_, sym, ap, ap₂, _∙_}
 use Rattle.schedule.specs.Bounded.{bit}
 use Rattle.schedule.specs.Fields.{bytes, pair, Bytes}
 use Rattle.schedule.specs.Rule
@@ -19,7 +16,7 @@ use Rattle.schedule.specs.Streams.{viewRefusal}
 use Rattle.schedule.specs.Numbers.{refusalNumbers}
 use Rattle.schedule.specs.declared.Refusal.{Refusal}
 use Rattle.laws.proofs.FirstBreak.{append-none}
-use Rattle.laws.proofs.PlanBytes.{Fits, ReadsBack, reads-back, word-behind}
+use Rattle.laws.proofs.PlanBytes.{ReadsBack, reads-back, word-behind}
 use Rattle.fields.specs.Put.{put}
 use Rattle.records.specs.declared.Pass.{Pass}
 use Rattle.records.specs.Reads.{passNumbers}
@@ -31,9 +28,8 @@ use Rattle.edits.specs.Edits.{wordWith, editedWord, firstMarked, pastMar
 use Rattle.edits.specs.Edits.{editRules, editChecks, editAnswer, ifUnrefused, editBytes}
 use Rattle.edits.specs.EditNumbers.{reasonNumbers, editedNumbers}
 use Rattle.edits.proofs.MarkedLaws.{first-ext, past-ext}
-use Rattle.edits.proofs.BitLaws.{word-lt}
 use Rattle.edits.proofs.AnswerLaws.{edits-are-tried, rulesAnswer, passed}
-use Rattle.edits.proofs.OneEdit.{one-of, marked, in-plan}
+use Rattle.edits.proofs.OneEdit.{marked, in-plan, worded-fits}
 
 -- ---- the row of a plan's own words
 
@@ -59,24 +55,8 @@ module _ (r : List ℕ) (e : Edit) (b : Bytes r) (ok : Editable r e) where
   abbrev worded : Plan
   worded = withWord (plan r) (e .tick) (wordWith e (plan r .word (e .tick)))
 
-  worded-fits : Fits worded
-  worded-fits =
-      let fits : Fits (plan r) = plan-fits r b in
-      record {
-        threads = fits .threads;
-        activities = fits .activities;
-        horizon = fits .horizon;
-        length = fits .length;
-        release = fits .release;
-        period = fits .period;
-        start = fits .start;
-        end = fits .end;
-        word = λ u l. one-of (eqb u (e .tick)) (256 ^ 4) _ _ (word-lt e (plan r .word (e .tick)) (fits .word (e .tick) (ok .2)))
-            (fits .word u l);
-      }
-
   back : ReadsBack worded
-  back = reads-back worded worded-fits
+  back = reads-back worded (worded-fits (plan r) e (plan-fits r b) (ok .2))
 
   -- the row that is counted in it
   first-there : firstMarked (plan (planBytes worded) .horizon) (λ t. active (plan (planBytes worded)) t (e .activity))

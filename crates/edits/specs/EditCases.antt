@@ -8,7 +8,7 @@ use Rattle.schedule.specs.Bounded
 use Rattle.schedule.specs.Bounded.{chain}
 use Rattle.schedule.specs.Answers.{Answer, accepted}
 use Rattle.schedule.specs.Cases.{every, patch, refuses}
-use Rattle.schedule.specs.Starred.{modelS, planS, times}
+use Rattle.schedule.specs.Starred.{modelS, planS, times, activity2-at-6}
 use Rattle.edits.specs.declared.Edit.{Edit}
 use Rattle.edits.specs.Edits
 use Rattle.edits.specs.Edits.{marking, clearing, editedBy, answersTo}
@@ -106,6 +106,14 @@ refusals =
 abbrev lists : List EditCase
 lists =
     record { model = modelS; plan = planS; calls = []; answers = []; after = planS }
+    -- activity 2 moved to tick 6, one of the starred plans
+    ∷ record {
+      model = modelS;
+      plan = planS;
+      calls = marking 2 6 ∷ marking 2 6 ∷ clearing 2 5 ∷ marking 3 6 ∷ [];
+      answers = done ∷ no 60 ∷ done ∷ no 58 ∷ [];
+      after = activity2-at-6 planS;
+    }
     -- the first mark of an activity that has none, at the last tick
     ∷ record {
       model = modelS;

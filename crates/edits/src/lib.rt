@@ -14,7 +14,7 @@ ghost use Rattle.edits.specs.EditNumbers.{editNumber, reasonNumbers, edi
 
 mod stroke;
 
-// An edit: a mark or a clear of an activity's bit at a tick.
+// An edit, as the definitions speak of it: a mark or a clear of an activity's bit at a tick.
 pub struct Edit {
     pub on: bool,
     pub activity: u32,

@@ -1,13 +1,13 @@
 -- A plan's bytes are those that are written from its parts; and with one word or one row in the place of another they are those of
 -- the plan that has it.
 -- Assumes nothing.
-use Prim.Native.Nat.{ℕ, zero, suc, _+_, _*_, _≤_, _<_}
+use Prim.Native.Nat.{ℕ, zero, suc, _+_, _*_, _^_, _≤_, _<_}
 use native.Mathlib.Nat.{add-zero, add-assoc, mul-suc, mul-le-mul-left}
 use native.Mathlib.Omega.{arith}
 use mathlib.Core.Bool.{Bool, true, false, cond}
-use mathlib.Core.List.{List, [], _∷_, _++_, append-assoc, append-nil}
+use mathlib.Core.List.{List, _++_, append-assoc, append-nil}
 use mathlib.Core.Logic.{⊎-elim}
-use mathlib.Core.Path.{_≡_, refl, sym, ap, ap₂, subst, _∙_}
+use mathlib.Core.Path.{_≡_, refl, sym, ap, ap₂, _∙_}
 use lib.Dec.{eqb}
 use lib.ListN.{length, take, drop, length-append, drop-of-length-le}
 use lib.Seq.{take-append-le, drop-append-le, take-append-seam, drop-append-seam}
@@ -135,6 +135,37 @@ withWord p t word = record {
   start = p .start;
   end = p .end;
   word = λ u. cond (eqb u t) word (p .word u);
+}
+
+-- their parts fit where the new ones do
+one-of : (t : Bool) (k x y : ℕ) → x < k → y < k → cond t x y < k
+one-of true k x y h _ = h
+one-of false k x y _ h = h
+
+pub row-fits : (p : Plan) (a start end : ℕ) → Fits p → start < 65536 → end < 65536 → Fits (withRow p a start end)
+row-fits p a start end fits small small′ = record {
+  threads = fits .threads;
+  activities = fits .activities;
+  horizon = fits .horizon;
+  length = fits .length;
+  release = fits .release;
+  period = fits .period;
+  start = λ j l. one-of (eqb j a) 65536 start (p .start j) small (fits .start j l);
+  end = λ j l. one-of (eqb j a) 65536 end (p .end j) small′ (fits .end j l);
+  word = fits .word;
+}
+
+pub word-fits : (p : Plan) (t word : ℕ) → Fits p → word < 256 ^ 4 → Fits (withWord p t word)
+word-fits p t word fits small = record {
+  threads = fits .threads;
+  activities = fits .activities;
+  horizon = fits .horizon;
+  length = fits .length;
+  release = fits .release;
+  period = fits .period;
+  start = fits .start;
+  end = fits .end;
+  word = λ u l. one-of (eqb u t) (256 ^ 4) word (p .word u) small (fits .word u l);
 }
 
 -- the bytes in front of the activity rows, those rows, and the words

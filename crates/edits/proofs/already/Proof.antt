@@ -1,5 +1,4 @@
 -- `edits::already` meets its contract, by the two kinds of edits. Assumes nothing.
-use borrow.Author.Needs.{needs}
 use Rattle.edits.proofs.already.Statement.{statement}
 use Rattle.edits.proofs.already.Tie as tie
 
