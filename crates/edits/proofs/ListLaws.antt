@@ -5,7 +5,7 @@ use native.Mathlib.Decide.{decLt, ℕ-discrete}
 use native.Mathlib.Omega.{arith}
 use mathlib.Core.List.{List, [], _∷_, _++_}
 use mathlib.Core.Logic.{_⊎_, inl, inr, ⊎-elim}
-use mathlib.Core.Path.{_≡_, refl, sym, ap, subst, _∙_}
+use mathlib.Core.Path.{_≡_, refl, sym, ap, ap₂, subst, _∙_}
 use lib.Dec.{T}
 use lib.ListN.{length, take, drop, getD, length-take, length-drop}
 use lib.Seq.{ext-getD, getD-take, getD-drop}
@@ -15,7 +15,8 @@ use Rattle.schedule.specs.Answers.{Answer, accepted, refused}
 use Rattle.laws.proofs.FieldLaws.{field-take, field-drop}
 use Rattle.edits.specs.declared.Edit.{Edit}
 use Rattle.edits.specs.Edits.{editAnswer, editBytes, editedBy, answersTo, unrefusedBy, ifUnrefused, editedPlan}
-use Rattle.edits.specs.Statements.{Marked, RowCounted, Elsewhere, EditMade, SomeOf, NoneOf, Of, On, rowBytes, AfterEdits, EveryList}
+use Rattle.edits.specs.Statements.{Marked, RowCounted, Elsewhere, EditMade, SomeOf, NoneOf, Of, On, rowBytes}
+use Rattle.edits.specs.Statements.{AfterEdits, EveryList, Alone, UnrefusedAlone}
 use Rattle.edits.proofs.AnswerLaws.{edits-are-tried}
 use Rattle.edits.proofs.OneEdit.{in-plan, after-bytes, back, edit-made}
 
@@ -206,3 +207,18 @@ pub every-list : EveryList
 unfolding editedBy answersTo unrefusedBy
 every-list s r [] b = nothing s r
 every-list s r (e ∷ es) b = step s r e (editAnswer s r e) refl b _ _ (every-list s (editBytes s r e) es)
+
+-- ---- the unrefused calls by themselves
+
+-- a call, unrefused or refused, before them
+alone : (s r : List ℕ) (e : Edit) (said : Answer (Unit {0})) → editAnswer s r e ≡ said → (made : List Edit) (after : List ℕ)
+    → Alone s (editBytes s r e) made after → Alone s r (ifUnrefused said (e ∷ made) made) after
+unfolding editedBy answersTo
+alone s r e (accepted _) done made after h = record { all-done = ap₂ _∷_ done (h .all-done); same-bytes = h .same-bytes }
+alone s r e (refused x) said made after h =
+    subst (λ (y : List ℕ). Alone s y made after) (edits-are-tried s r e .nothing-changed x said) h
+
+pub unrefused-alone : UnrefusedAlone
+unfolding editedBy answersTo unrefusedBy
+unrefused-alone s r [] = record { all-done = refl; same-bytes = refl }
+unrefused-alone s r (e ∷ es) = alone s r e (editAnswer s r e) refl _ _ (unrefused-alone s (editBytes s r e) es)

@@ -11,22 +11,24 @@ use Rattle.schedule.specs.Cases.{every, patch, refuses}
 use Rattle.schedule.specs.Starred.{modelS, planS, times, activity2-at-6}
 use Rattle.edits.specs.declared.Edit.{Edit}
 use Rattle.edits.specs.Edits
-use Rattle.edits.specs.Edits.{marking, clearing, editedBy, answersTo}
+use Rattle.edits.specs.Edits.{marking, clearing, editedBy, answersTo, unrefused}
 
 -- ---- the form of the table
 
--- a model, a plan and a list of calls, with what they answer and the plan's bytes after them
+-- a model, a plan and a list of calls, with what they answer, those that are unrefused, and the plan's bytes after them
 pub record EditCase : Type 0 where
   pub model : List ℕ
   pub plan : List ℕ
   pub calls : List Edit
   pub answers : List (Answer (Unit {0}))
+  pub unrefused-calls : List Edit
   pub after : List ℕ
 
 -- the definitions say what is expected, in every case of a table
 abbrev pub AllRight : List EditCase → Type 0
 AllRight cases =
     (map (λ c. answersTo (c .model) (c .plan) (c .calls)) cases ≡ map (λ c. c .answers) cases)
+    × (map (λ c. unrefused (c .model) (c .plan) (c .calls)) cases ≡ map (λ c. c .unrefused-calls) cases)
     × (map (λ c. editedBy (c .model) (c .plan) (c .calls)) cases ≡ map (λ c. c .after) cases)
 
 abbrev done : Answer (Unit {0})
@@ -37,10 +39,24 @@ no number = refuses number 0 0
 
 -- an unrefused call with the plan after it, and a refused one, which changes nothing
 abbrev made : List ℕ → List ℕ → Edit → List ℕ → EditCase
-made model plan e after = record { model = model; plan = plan; calls = e ∷ []; answers = done ∷ []; after = after }
+made model plan e after = record {
+  model = model;
+  plan = plan;
+  calls = e ∷ [];
+  answers = done ∷ [];
+  unrefused-calls = e ∷ [];
+  after = after;
+}
 
 abbrev turned : List ℕ → List ℕ → Edit → Answer (Unit {0}) → EditCase
-turned model plan e said = record { model = model; plan = plan; calls = e ∷ []; answers = said ∷ []; after = plan }
+turned model plan e said = record {
+  model = model;
+  plan = plan;
+  calls = e ∷ [];
+  answers = said ∷ [];
+  unrefused-calls = [];
+  after = plan;
+}
 
 -- ---- model S: activity 0 at ticks 1 and 2, activity 1 at 0 and 3, activity 2 at 5
 
@@ -60,6 +76,8 @@ on-S =
     ∷ made modelS planS (clearing 0 2) (times 0 1 2 (word 2 0 planS))
     -- what is left is tick 0: the end tells it from nothing
     ∷ made modelS planS (clearing 1 3) (times 1 0 1 (word 3 0 planS))
+    -- a tick between two marked ones is free too, and the row stays
+    ∷ made modelS planS (marking 1 2) (word 2 3 planS)
     ∷ []
 
 -- rows that disagree with the bits: beside them, inside them and around them
@@ -69,9 +87,15 @@ disagreeing =
     ∷ made modelS (times 0 2 2 planS) (clearing 0 1) (times 0 2 3 (word 1 0 planS))
     ∷ made modelS (times 2 0 8 planS) (marking 2 6) (times 2 5 7 (word 6 4 planS))
     ∷ made modelS (times 2 3 9 planS) (clearing 2 5) (times 2 0 0 (word 5 0 planS))
-    -- another activity's wrong row is left alone
+    -- a row that says none, one with both its ends marked, and one with the tick inside it
+    ∷ made modelS (times 2 0 0 planS) (marking 2 6) (times 2 5 7 (word 6 4 planS))
+    ∷ made modelS (times 1 0 1 planS) (marking 1 1) (times 1 0 4 (word 1 3 planS))
+    ∷ made modelS (times 0 0 8 planS) (clearing 0 2) (times 0 1 2 (word 2 0 planS))
+    -- another activity's wrong row is left alone, of a lower number, of a higher one, and of one at the same tick
     ∷ made modelS (times 0 9 2 planS) (marking 2 6) (times 0 9 2 (times 2 5 7 (word 6 4 planS)))
     ∷ made modelS (times 1 0 0 planS) (clearing 2 5) (times 1 0 0 (times 2 0 0 (word 5 0 planS)))
+    ∷ made modelS (times 2 7 7 planS) (marking 0 3) (times 2 7 7 (times 0 1 4 (word 3 3 planS)))
+    ∷ made modelS (times 0 9 2 planS) (marking 2 1) (times 0 9 2 (times 2 1 6 (word 1 5 planS)))
     -- and so is a wrong row where the call is refused
     ∷ turned modelS (times 0 9 2 planS) (marking 0 1) (no 60)
     ∷ []
@@ -105,13 +129,14 @@ refusals =
 -- lists of calls
 abbrev lists : List EditCase
 lists =
-    record { model = modelS; plan = planS; calls = []; answers = []; after = planS }
+    record { model = modelS; plan = planS; calls = []; answers = []; unrefused-calls = []; after = planS }
     -- activity 2 moved to tick 6, one of the starred plans
     ∷ record {
       model = modelS;
       plan = planS;
       calls = marking 2 6 ∷ marking 2 6 ∷ clearing 2 5 ∷ marking 3 6 ∷ [];
       answers = done ∷ no 60 ∷ done ∷ no 58 ∷ [];
+      unrefused-calls = marking 2 6 ∷ clearing 2 5 ∷ [];
       after = activity2-at-6 planS;
     }
     -- the first mark of an activity that has none, at the last tick
@@ -120,6 +145,7 @@ lists =
       plan = planS;
       calls = clearing 2 5 ∷ marking 2 7 ∷ [];
       answers = done ∷ done ∷ [];
+      unrefused-calls = clearing 2 5 ∷ marking 2 7 ∷ [];
       after = times 2 7 8 (word 5 0 (word 7 4 planS));
     }
     -- a middle tick cleared
@@ -128,6 +154,7 @@ lists =
       plan = planS;
       calls = marking 0 3 ∷ clearing 0 2 ∷ [];
       answers = done ∷ done ∷ [];
+      unrefused-calls = marking 0 3 ∷ clearing 0 2 ∷ [];
       after = times 0 1 4 (word 2 0 (word 3 3 planS));
     }
     -- three activities, two of them at one tick
@@ -136,6 +163,7 @@ lists =
       plan = planS;
       calls = marking 0 4 ∷ marking 1 5 ∷ clearing 2 5 ∷ [];
       answers = done ∷ done ∷ done ∷ [];
+      unrefused-calls = marking 0 4 ∷ marking 1 5 ∷ clearing 2 5 ∷ [];
       after = times 0 1 5 (times 1 0 6 (times 2 0 0 (word 4 1 (word 5 2 planS))));
     }
     -- refused calls among the others: the last unrefused one on a bit counts
@@ -144,6 +172,7 @@ lists =
       plan = times 2 9 9 planS;
       calls = marking 2 6 ∷ marking 2 6 ∷ clearing 2 5 ∷ clearing 2 5 ∷ marking 3 0 ∷ marking 2 5 ∷ clearing 2 6 ∷ [];
       answers = done ∷ no 60 ∷ done ∷ no 60 ∷ no 58 ∷ done ∷ done ∷ [];
+      unrefused-calls = marking 2 6 ∷ clearing 2 5 ∷ marking 2 5 ∷ clearing 2 6 ∷ [];
       after = planS;
     }
     ∷ []
@@ -205,14 +234,28 @@ others =
     ∷ turned modelR planR (marking 4 0) (no 58)
     ∷ turned modelR planR (marking 3 10) (no 59)
     ∷ turned modelR planR (marking 2 6) (no 60)
+    -- a plan of the counts of one round, and a width above c: both before 58
+    ∷ turned modelR (patch 6 (2 ∷ []) planR) (marking 4 0) (refuses 10 0 0)
+    ∷ turned (patch 91 (3 ∷ []) modelG) planG (marking 3 0) (refuses 57 2 0)
     ∷ made modelG planG (marking 1 4) (patch 25 (0 ∷ 2 ∷ 0 ∷ 5 ∷ []) (patch 49 (0 ∷ 0 ∷ 0 ∷ 6 ∷ []) planG))
     ∷ made modelG planG (clearing 1 2) (patch 25 (0 ∷ 3 ∷ 0 ∷ 4 ∷ []) (patch 41 (0 ∷ 0 ∷ 0 ∷ 0 ∷ []) planG))
     ∷ turned modelG planG (clearing 1 4) (no 60)
+    -- the bit beside it is another activity's, clear or set
+    ∷ made modelG planG (marking 1 5) (patch 25 (0 ∷ 2 ∷ 0 ∷ 6 ∷ []) (patch 53 (0 ∷ 0 ∷ 0 ∷ 2 ∷ []) planG))
+    ∷ record {
+      model = modelG;
+      plan = planG;
+      calls = marking 1 4 ∷ clearing 1 4 ∷ [];
+      answers = done ∷ done ∷ [];
+      unrefused-calls = marking 1 4 ∷ clearing 1 4 ∷ [];
+      after = planG;
+    }
     ∷ record {
       model = model32;
       plan = plan32;
       calls = marking 31 0 ∷ marking 32 0 ∷ marking 0 0 ∷ clearing 0 0 ∷ [];
       answers = done ∷ no 58 ∷ done ∷ done ∷ [];
+      unrefused-calls = marking 31 0 ∷ marking 0 0 ∷ clearing 0 0 ∷ [];
       after = patch 137 (0 ∷ 0 ∷ 0 ∷ 1 ∷ 128 ∷ 0 ∷ 0 ∷ 0 ∷ []) plan32;
     }
     ∷ []
@@ -225,4 +268,5 @@ cases = on-S ++ disagreeing ++ refusals ++ lists ++ others
 pub edit-cases : AllRight cases
 unfolding every Bounded.withoutBit Edits.editedWord Edits.firstMarked Edits.pastMarked Edits.editedPlan
     Edits.rule58 Edits.rule59 Edits.rule60 Edits.editChecks Edits.editAnswer Edits.editBytes Edits.editedBy Edits.answersTo
-edit-cases = (refl, refl)
+    Edits.unrefusedBy
+edit-cases = (refl, refl, refl)

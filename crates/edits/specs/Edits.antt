@@ -26,7 +26,7 @@ clearing a t = record { on = false; activity = a; tick = t }
 abbrev pub wordWith : Edit → ℕ → ℕ
 wordWith e w = cond (e .on) (withBit w (e .activity)) (withoutBit w (e .activity))
 
--- the words of all ticks after it: that of its own tick has changed
+-- the word of every tick after the edit: the changed one at its own tick, and elsewhere the old one
 unfoldable pub editedWord : Plan → Edit → ℕ → ℕ
 editedWord p e t = cond (eqb t (e .tick)) (wordWith e (p .word (e .tick))) (p .word t)
 

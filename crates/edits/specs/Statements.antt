@@ -2,7 +2,7 @@
 -- and what stands in it after every list of calls.
 -- Assumes nothing.
 use Prim.Native.Nat.{ℕ, _+_, _≤_, _<_}
-use mathlib.Core.List.{List, [], _∷_, _++_}
+use mathlib.Core.List.{List, [], _∷_, _++_, map}
 use mathlib.Core.Logic.{_⊎_, _↔_}
 use mathlib.Core.Option.{some}
 use mathlib.Core.Path.{_≡_}
@@ -18,7 +18,7 @@ use Rattle.schedule.specs.Retired.{NoCaseRetired, AnswerNotRetired}
 use Rattle.demands.specs.Rounds.{SameGiven}
 use Rattle.edits.specs.declared.Edit.{Edit}
 use Rattle.edits.specs.declared.Reason.{Reason}
-use Rattle.edits.specs.Edits.{editChecks, editAnswer, editBytes, editedBy, unrefused}
+use Rattle.edits.specs.Edits.{editChecks, editAnswer, editBytes, editedBy, answersTo, unrefused}
 use Rattle.edits.specs.EditNumbers.{editNumber, reasonNumbers}
 
 -- ---- what a call answers
@@ -38,10 +38,11 @@ EditsAreTried = (s r : List ℕ) (e : Edit) → Tried s r e
 abbrev pub refusedBy : ℕ → Answer (Unit {0})
 refusedBy number = refused (record { number = number; A = 0; B = 0 })
 
--- the edit is of an activity of the model at one of its ticks, and the bit is as the edit wants it
+-- the edit is of an activity of the model, at one of its ticks
 abbrev pub InGrid : List ℕ → Edit → Type 0
 InGrid s e = (e .activity < model s .activities) × (e .tick < model s .horizon)
 
+-- the bit is as the edit wants it
 abbrev pub AlreadySo : List ℕ → Edit → Type 0
 AlreadySo r e = active (plan r) (e .tick) (e .activity) ≡ e .on
 
@@ -61,7 +62,7 @@ EditsAreAnswered = (s r : List ℕ) (e : Edit) → MeetsForm s → WellFormed s 
 
 -- ---- what an unrefused call leaves
 
--- a tick is the first of a plan's at which an activity is marked, and the last
+-- an activity is marked at a tick of a plan; that tick is the first such one, and the last
 abbrev pub Marked : Plan → ℕ → ℕ → Type 0
 Marked p a t = (t < p .horizon) × T (active p t a)
 
@@ -97,6 +98,7 @@ pub record EditMade (s r : List ℕ) (e : Edit) : Type 0 where
   -- and it is well-formed still
   pub still-formed : WellFormed s (editBytes s r e)
 
+-- of any bytes, which every lent slice holds
 abbrev pub EditsAreMade : Type 0
 EditsAreMade = (s r : List ℕ) (e : Edit) → Bytes r → editAnswer s r e ≡ accepted tt → EditMade s r e
 
@@ -144,9 +146,18 @@ pub record AfterEdits (s r after : List ℕ) (made : List Edit) : Type 0 where
 abbrev pub EveryList : Type 0
 EveryList = (s r : List ℕ) (es : List Edit) → Bytes r → AfterEdits s r (editedBy s r es) (unrefused s r es)
 
+-- The unrefused calls of a list by themselves, in their order: each of them is unrefused again, and they leave the same bytes.
+pub record Alone (s r : List ℕ) (made : List Edit) (after : List ℕ) : Type 0 where
+  pub all-done : answersTo s r made ≡ map (λ _. accepted tt) made
+  pub same-bytes : editedBy s r made ≡ after
+
+abbrev pub UnrefusedAlone : Type 0
+UnrefusedAlone = (s r : List ℕ) (es : List Edit) → Alone s r (unrefused s r es) (editedBy s r es)
+
 -- ---- pages of several rounds
 
--- two records that say one model are edited alike: a page of several rounds as the record of its unrolled model (U4 of 02)
+-- Two records that give the same model are edited alike: so a page of several rounds as the record of its unrolled model, of which
+-- crate demands, Rounds, says that it gives the same (U4 of 02).
 abbrev pub EditedAlike : Type 0
 EditedAlike = (s u r : List ℕ) (e : Edit) → SameGiven s u
     → (editAnswer s r e ≡ editAnswer u r e) × (editBytes s r e ≡ editBytes u r e)
