@@ -116,7 +116,7 @@ R_GRID = [1, 1, 2, 2, 2, 0, 4, 8, 8, 0]
 R_ROWS = [(0, 2), (2, 5), (6, 7), (7, 9)]
 R_PLAN = plan(R_CHOSEN, R_GRID, R_ROWS)
 
-# 32 activities of one thread and of one tick each, in one tick
+# 32 activities of one thread and of one tick each, and a plan of two ticks at which none is marked
 WHOLE_WORD = model(8, 2, [thread(1)], [activity(0)] * 32)
 EMPTY = plan([FREE], [0, 0], [(0, 0)] * 32)
 

@@ -15,9 +15,9 @@ use Rattle.schedule.specs.Plan.{Plan, plan, active, planForm, planBytes}
 use Rattle.schedule.specs.Answers.{Answer, accepted, refused, answer, MeetsForm, WellFormed}
 use Rattle.schedule.specs.Streams.{viewRefusal}
 use Rattle.laws.proofs.Tests.{T-ltb}
-use Rattle.laws.proofs.FirstBreak.{AllSound, append-some, hold-append, sound-append}
+use Rattle.laws.proofs.FirstBreak.{AllSound, none-iff, append-none, append-some, hold-append, sound-append}
 use Rattle.laws.proofs.Sound.{modelForm-sound, planForm-sound}
-use Rattle.laws.proofs.VerdictLaws.{answer-accepted, answer-refused, past-form}
+use Rattle.laws.proofs.VerdictLaws.{answer-accepted, answer-refused}
 use Rattle.records.specs.Reads.{pick}
 use Rattle.records.proofs.Reading.{rule-picked, rule-end}
 use Rattle.edits.specs.declared.Edit.{Edit}
@@ -150,10 +150,19 @@ not-below a b = (
 abbrev pub rulesAnswer : Model → Plan → Edit → Answer (Unit {0})
 rulesAnswer m p e = answer (firstBreak (editRules m p e)) tt
 
-pub behind-records : (s r : List ℕ) (e : Edit) → MeetsForm s → WellFormed s r → editAnswer s r e ≡ rulesAnswer (model s) (plan r) e
-unfolding editAnswer editChecks
-behind-records s r e meets formed =
-    ap (λ (o : Option Refusal). answer o tt) (past-form s r (editRules (model s) (plan r) e) meets formed)
+pub behind-records : (s r : List ℕ) (e : Edit) → viewRefusal s r ≡ none → editAnswer s r e ≡ rulesAnswer (model s) (plan r) e
+unfolding editAnswer editChecks viewRefusal
+behind-records s r e pass =
+    ap (λ (o : Option Refusal). answer o tt)
+    (ap firstBreak (sym (append-assoc (modelForm s) (planForm (model s) r) (editRules (model s) (plan r) e)))
+    ∙ append-none (modelForm s ++ planForm (model s) r) (editRules (model s) (plan r) e) pass)
+
+-- records of right form are refused by no view
+forms-pass : (s r : List ℕ) → MeetsForm s → WellFormed s r → viewRefusal s r ≡ none
+unfolding viewRefusal
+forms-pass s r meets formed =
+    append-none (modelForm s) (planForm (model s) r) (none-iff (modelForm s) (modelForm-sound s) .1 meets)
+    ∙ none-iff (planForm (model s) r) (planForm-sound (model s) r) .1 formed
 
 module _ (m : Model) (p : Plan) (e : Edit) where
   abbrev x : Bool
@@ -233,5 +242,5 @@ edits-are-answered s r e meets formed = record {
 
     is : (k : Answer (Unit {0})) → (editAnswer s r e ≡ k) ↔ (said x′ y′ z′ ≡ k)
     is k =
-        let answered = behind-records s r e meets formed ∙ rules-said (model s) (plan r) e in
+        let answered = behind-records s r e (forms-pass s r meets formed) ∙ rules-said (model s) (plan r) e in
         (λ a. sym answered ∙ a, λ a. answered ∙ a)

@@ -2,20 +2,16 @@
 -- hand on.
 -- Assumes nothing.
 use Prim.Native.Nat.{ℕ, _+_, _<_}
-use mathlib.Core.List.{List, _++_, append-assoc}
-use mathlib.Core.Option.{Option}
+use mathlib.Core.List.{List}
 use mathlib.Core.Path.{_≡_, sym, ap, ap₂, _∙_}
 use Rattle.schedule.specs.Bounded.{bit}
 use Rattle.schedule.specs.Fields.{bytes, pair, Bytes}
-use Rattle.schedule.specs.Rule
-use Rattle.schedule.specs.Rule.{firstBreak}
-use Rattle.schedule.specs.Model.{model, modelForm}
-use Rattle.schedule.specs.Plan.{Plan, plan, active, planForm, planBytes, planActivityRow, gridAt, tickAt, planGrid, wordIn}
-use Rattle.schedule.specs.Answers.{Answer, accepted, refused, answer}
+use Rattle.schedule.specs.Model.{model}
+use Rattle.schedule.specs.Plan.{Plan, plan, active, planBytes, planActivityRow, gridAt, tickAt, planGrid, wordIn}
+use Rattle.schedule.specs.Answers.{Answer, accepted, refused}
 use Rattle.schedule.specs.Streams.{viewRefusal}
 use Rattle.schedule.specs.Numbers.{refusalNumbers}
 use Rattle.schedule.specs.declared.Refusal.{Refusal}
-use Rattle.laws.proofs.FirstBreak.{append-none}
 use Rattle.laws.proofs.PlanBytes.{ReadsBack, reads-back, word-behind}
 use Rattle.fields.specs.Put.{put}
 use Rattle.records.specs.declared.Pass.{Pass}
@@ -25,10 +21,10 @@ use Rattle.edits.specs.declared.Edit.{Edit}
 use Rattle.edits.specs.declared.Reason.{Reason}
 use Rattle.edits.specs.declared.Edited.{Edited}
 use Rattle.edits.specs.Edits.{wordWith, editedWord, firstMarked, pastMarked, editedPlan}
-use Rattle.edits.specs.Edits.{editRules, editChecks, editAnswer, ifUnrefused, editBytes}
+use Rattle.edits.specs.Edits.{editAnswer, ifUnrefused, editBytes}
 use Rattle.edits.specs.EditNumbers.{reasonNumbers, editedNumbers}
 use Rattle.edits.proofs.MarkedLaws.{first-ext, past-ext}
-use Rattle.edits.proofs.AnswerLaws.{edits-are-tried, rulesAnswer, passed}
+use Rattle.edits.proofs.AnswerLaws.{edits-are-tried, rulesAnswer, behind-records, passed}
 use Rattle.edits.proofs.OneEdit.{marked, in-plan, worded-fits}
 
 -- ---- the row of a plan's own words
@@ -105,11 +101,7 @@ records-refused s r e pass told x is =
 
 pub records-pass : (s r : List ℕ) (e : Edit) (pass : Pass) → passNumbers pass ≡ viewRefusal s r → pass ≡ Pass.Holds
     → rulesAnswer (model s) (plan r) e ≡ editAnswer s r e
-unfolding editAnswer editChecks viewRefusal
-records-pass s r e pass told is =
-    ap (λ (o : Option Rule.Refusal). answer o tt)
-    (sym (append-none (modelForm s ++ planForm (model s) r) (editRules (model s) (plan r) e) (sym told ∙ ap passNumbers is))
-    ∙ ap firstBreak (append-assoc (modelForm s) (planForm (model s) r) (editRules (model s) (plan r) e)))
+records-pass s r e pass told is = sym (behind-records s r e (sym told ∙ ap passNumbers is))
 
 -- the call is refused, or the edit is made
 pub refused-leaves : (s r : List ℕ) (e : Edit) (said : Edited) → editedNumbers said ≡ editAnswer s r e

@@ -98,7 +98,7 @@ pub record EditMade (s r : List ℕ) (e : Edit) : Type 0 where
   -- and it is well-formed still
   pub still-formed : WellFormed s (editBytes s r e)
 
--- of any bytes, which every lent slice holds
+-- of every string of bytes, as every lent slice is one
 abbrev pub EditsAreMade : Type 0
 EditsAreMade = (s r : List ℕ) (e : Edit) → Bytes r → editAnswer s r e ≡ accepted tt → EditMade s r e
 
