@@ -10,8 +10,7 @@ use mir.Syntax.{w32}
 use mir.Val.{SFits, of_z}
 use borrow.Author.Tests.{eq-eqb, ne_eqb}
 use Rattle.schedule.specs.Report.{is_dash}
-use Rattle.numbers.proofs.is_dash.Statement.{statement}
-use Rattle.numbers.proofs.is_dash.Tie as tie
+use Rattle.numbers.proofs.is_dash.Goals as goal
 
 dash-is : (z : ℤ) → SFits w32 z → eqb (of_z w32 z) 2147483648 ≡ is_dash z
 dash-is (pos n) fits = ne_eqb n 2147483648 (λ (e : n ≡ 2147483648). omega (arith, fits.sfits))
@@ -23,8 +22,5 @@ dash-is (negsuc n) fits =
           ∙ sym (ne_eqb n 2147483647 e)
     ]
 
-returns : tie.Need-returns
+pub returns : goal.returns
 returns c = dash-is c.args.figure c.ranges.figure
-
-pub is-dash-spec : {M : Type 1} → statement M
-is-dash-spec = tie.close (tie.spec returns)

@@ -1,0 +1,12 @@
+-- `numbers::fills` meets its contract: a pass, or a refusal whose number is 43.
+-- Assumes nothing.
+use mathlib.Core.Path.{ap}
+use lib.Dec.{eqb}
+use Rattle.schedule.specs.Rule.{Refusal}
+use borrow.Author.Rules.{rules}
+use Rattle.numbers.proofs.fills.Goals as goal
+
+pub returns-in-Refused : goal.returns-in-Refused
+returns-in-Refused c =
+    rw c.in-Refused.is
+    (ap (λ (x : Refusal). eqb x.number 43) c.refusal_numbers-said.ensures)

@@ -1,0 +1,278 @@
+"""Turns the proof files of older Rattle that walk a function's goals by hand into the Invariants and Answers of today's.
+
+usage: python3 tools/answers.py NAMES CRATE [FUNCTION]
+
+NAMES is the names.json that `rt check --generated FOLDER --old-names` writes in the crate's folder: it gives each goal, step and
+place its old and its new name. A file proofs/F/Proof.antt is replaced by what of it is still needed: the invariants and measures,
+and each answer that was not left to search. What could not be turned is told, and stands in the files between ⟪ and ⟫.
+"""
+import json
+import os
+import re
+import sys
+
+WORD = r"[^\s(){}\[\];,.\"`⟨⟩λ]+"
+PATH = re.compile(r"(?<![\w'₀.-])(%s)((?:\.%s)*)" % (WORD, WORD))
+DECLARED = re.compile(r"^(?:abbrev )?(?:pub )?([^\s(){}:]+)(?: \([^\n]*\))? :")
+GOAL = re.compile(r"^(?:pub )?(\S+) : tie\.Need-(\S+)")
+
+
+def norm(name):
+    return name.replace("_", "-")
+
+
+class Function:
+    def __init__(self, told):
+        self.needs = {}
+        for (old, new), at in zip(told["needs"], told["asked_at"]):
+            self.needs[norm(old)] = (new, at[0])
+        self.places = {p[0]: (i, p[1], p[2]) for i, p in enumerate(told["places"])}
+        self.arms = told["arms"]
+        self.loops = told["loops"]
+        self.changed = told["changed"]
+        self.typed = dict((p[0], t) for p, t in zip(told["places"], told["typed"]))
+        self.left = []
+
+    def need(self, old):
+        for form in (norm(old), re.sub(r"^overflow-", "", norm(old)), re.sub(r"^(overflow|bounds|nonzero)-", "", norm(old))):
+            if form in self.needs:
+                return self.needs[form]
+        return None
+
+    def up(self, place, parts):
+        while parts and parts[0] == "before":
+            place = self.places[place][1]
+            parts = parts[1:]
+            if place is None:
+                return None, parts
+        return place, parts
+
+    def field(self, place, parts):
+        """The path of a fact in today's record of facts."""
+        index, parent, (old, new) = self.places[place]
+        step, rest = parts[0], parts[1:]
+        if place == "Start":
+            return "c." + ".".join(parts)
+        if norm(step) == norm(old) or re.sub(r"\d+$", "", norm(step)) == re.sub(r"\d+$", "", norm(old)):
+            known = [t for t in self.typed.get(place, []) if norm(t[1]) == norm(old)]
+            if known and rest and rest[0] == "given":
+                return "c.type_inv." + known[0][0] + "".join("." + r for r in rest[1:])
+            arm = self.arms[index]
+            if arm:
+                best = None
+                for field, from_step, from_path in arm[2]:
+                    if norm(from_step) == norm(old) and [norm(r) for r in rest[:len(from_path)]] == [norm(f) for f in from_path]:
+                        if best is None or len(from_path) > len(best[1]):
+                            best = (field, from_path)
+                if best:
+                    return ".".join(["c", arm[0], best[0]] + rest[len(best[1]):])
+                rest_arm = [r for r in rest]
+                return ".".join(["c", arm[0]] + rest_arm)
+            rest = ["type_inv" if r == "type-inv" else r for r in rest]
+            return ".".join(["c", new] + rest)
+        return None
+
+    def body(self, text, place):
+        env = {"c": place}
+        rest = text
+        pat = re.compile(r"let ([^\s:=]+) = ([a-z][\w-]*(?:\.before)*) in\b[ ]?(?:\n\s*)?")
+        while True:
+            hit = None
+            for m in pat.finditer(rest):
+                head = m.group(2).split(".")
+                if head[0] in env:
+                    hit = (m, head)
+                    break
+            if not hit:
+                break
+            m, head = hit
+            at, parts = self.up(env[head[0]], head[1:])
+            env[m.group(1)] = at
+            rest = rest[:m.start()] + rest[m.end():]
+
+        def turn(m):
+            head, path = m.group(1), m.group(2)
+            if head not in env:
+                return m.group(0)
+            parts = path[1:].split(".") if path else []
+            at, parts = self.up(env[head], parts)
+            if at is None or not parts:
+                if head == "c" and not path:
+                    self.left.append(m.group(0))
+                    return "⟪c⟫"
+                self.left.append(m.group(0))
+                return "⟪%s⟫" % m.group(0)
+            done = self.field(at, parts)
+            if done is None:
+                self.left.append("%s at %s" % (m.group(0), at))
+                return "⟪%s⟫" % m.group(0)
+            return done
+
+        return PATH.sub(turn, rest)
+
+
+def groups(text):
+    """The header, the `use` lines and the declarations of a file."""
+    lines = text.split("\n")
+    head, uses, decls, pending = [], [], [], []
+    i = 0
+    while i < len(lines) and lines[i].startswith("--"):
+        head.append(lines[i])
+        i += 1
+    for line in lines[i:]:
+        if line.startswith("use "):
+            uses.append(line)
+        elif line.startswith("--"):
+            pending.append(line)
+        elif line and not line[0].isspace():
+            name = re.match(r"\S+", line).group(0)
+            m = DECLARED.match(line)
+            opens = m or line.startswith("module ") or line.startswith("record ") or line.startswith("data ") or re.match(r"pub (record|data)", line)
+            if opens or not decls:
+                decls.append(pending + [line])
+            else:
+                decls[-1].extend(pending + [line])
+            pending = []
+        elif decls:
+            decls[-1].extend(pending + [line])
+            pending = []
+    return head, uses, decls
+
+
+def trimmed(lines):
+    while lines and not lines[-1].strip():
+        lines = lines[:-1]
+    return lines
+
+
+def convert(folder, crate, path_name, told):
+    file = os.path.join(folder, "Proof.antt")
+    text = open(file, encoding="utf-8").read()
+    f = Function(told)
+    head, uses, decls = groups(text)
+    where = "Rattle.%s.proofs.%s" % (crate, path_name)
+    uses = [u for u in uses if ".Statement.{" not in u and not u.endswith(".Tie as tie")]
+    invariants, answers, locals_ = [], [], []
+    for decl in decls:
+        decl = trimmed(decl)
+        lines = [l for l in decl if not l.startswith("--")]
+        said = [l for l in decl if l.startswith("--")]
+        whole = "\n".join(lines)
+        m = re.match(r"^(?:abbrev )?(?:pub )?(invariant|decreases)-(\S+) : tie\.\S+", lines[0])
+        if m:
+            kind, loop = m.groups()
+            body = re.match(r"^\S+((?: [^=\s]+)*) =(.*)$", "\n".join(lines[1:]), re.S)
+            index = [norm(l[0][0]) for l in f.loops].index(norm(loop)) if norm(loop) in [norm(l[0][0]) for l in f.loops] else None
+            if index is None or not body:
+                f.left.append("loop " + loop)
+                continue
+            (_, new), names = f.loops[index]
+            changed = f.changed[index]
+            given = body.group(1).split()
+            moved = [n for n, c in zip(names, changed) if c]
+            if len(given) != len(names) + len(moved):
+                f.left.append("loop %s: %d given, %s %s" % (loop, len(given), names, changed))
+                continue
+            env = {}
+            for g, n, c in zip(given, names, changed):
+                env[g] = ("l.initial." if c else "l.") + n
+            for g, n in zip(given[len(names):], moved):
+                env[g] = "l." + n
+            inner = body.group(2)
+            bound = set(re.findall(r"\((%s) :" % WORD, inner)) | set(re.findall(r"λ (%s)" % WORD, inner)) | set(re.findall(r"let (%s)" % WORD, inner))
+            for b in bound & set(env):
+                f.left.append("bound %s in %s" % (b, kind))
+            inner = PATH.sub(lambda w: env[w.group(1)] + w.group(2) if w.group(1) in env and w.group(1) not in bound else w.group(0), inner)
+            invariants.append((said, "abbrev pub %s-%s : goal.%s-%s\n%s-%s l =%s" % (kind, new, kind, new, kind, new, inner)))
+            continue
+        m = GOAL.match(lines[0])
+        if m:
+            own, old = m.groups()
+            rest = lines[1:]
+            while rest and not rest[0].startswith("unfolding ") and not rest[0].startswith(own):
+                rest = rest[1:]
+            opened = [l for l in rest if l.startswith("unfolding ")]
+            clause = "\n".join(l for l in rest if not l.startswith("unfolding "))
+            b = re.match(r"^\S+((?: [^=\s]+)*) =(.*)$", clause, re.S)
+            if not b:
+                f.left.append("goal " + own)
+                locals_.append((said, own, whole))
+                continue
+            if b.group(2).strip() == "search rules" and not opened:
+                continue
+            found = f.need(old)
+            if not found:
+                f.left.append("no goal for " + old)
+                locals_.append((said, own, whole))
+                continue
+            new, at = found
+            given = b.group(1).split()
+            inner = f.body(b.group(2), at)
+            extra = [g for g in given[1:] if re.search(r"(?<![\w-])%s(?![\w-])" % re.escape(g), inner)]
+            if extra:
+                f.left.append("%s takes %s" % (own, extra))
+            answers.append((said, "pub %s : goal.%s\n%s%s c =%s" % (new, new, "".join(o + "\n" for o in opened), new, inner)))
+            continue
+        if "tie.close" in whole or "tie.spec" in whole:
+            continue
+        name = DECLARED.match(lines[0])
+        locals_.append((said, name.group(1) if name else "", whole))
+    needed = "\n".join(a for _, a in answers) + "\n".join(i for _, i in invariants)
+    kept, grew = [], True
+    left = list(locals_)
+    while grew:
+        grew = False
+        for item in list(left):
+            names = [item[1]] if item[1] else re.findall(r"^  (?:pub )?(\S+) :", item[2], re.M)
+            if any(re.search(r"(?<![\w'-])%s(?![\w'-])" % re.escape(n), needed) for n in names if n):
+                kept.append(item)
+                left.remove(item)
+                needed += item[2]
+                grew = True
+    kept = [item for item in locals_ if item in kept]
+    in_inv = "\n".join(i for _, i in invariants)
+    inv_local = [k for k in kept if k[1] and re.search(r"(?<![\w'-])%s(?![\w'-])" % re.escape(k[1]), in_inv)]
+    out = []
+
+    def write(name, goals, parts, header):
+        lines = list(header)
+        lines += sorted(set(uses), key=uses.index)
+        lines.append("use %s.%s as goal" % (where, goals))
+        for said, part in parts:
+            lines += [""] + said + part.split("\n")
+        text = "\n".join(lines) + "\n"
+        open(os.path.join(folder, name), "w", encoding="utf-8").write(text)
+        out.append(name)
+
+    if invariants:
+        write("Invariants.antt", "Given", [(s, w) for s, _, w in inv_local] + invariants, head)
+    if answers:
+        header = head if not invariants else []
+        write("Answers.antt", "Goals", [(s, w) for s, _, w in kept if (s, _, w) not in inv_local] + answers, header)
+    os.remove(file)
+    for line in f.left:
+        print("left: %s: %s" % (folder, line))
+    return out
+
+
+def main():
+    told = json.load(open(sys.argv[1], encoding="utf-8"))
+    crate = sys.argv[2]
+    top = "proofs"
+    for key in sorted(told):
+        name = re.match(r"Rattle-%s-proofs\.(.*)\.Lts$" % crate, key)
+        if not name:
+            continue
+        path_name = name.group(1)
+        if len(sys.argv) > 3 and path_name not in sys.argv[3:]:
+            continue
+        folder = os.path.join(top, *path_name.split("."))
+        if os.path.exists(os.path.join(folder, "Proof.antt")) and "tie." in open(os.path.join(folder, "Proof.antt")).read():
+            convert(folder, crate, path_name, told[key])
+    for folder, _, files in os.walk(top):
+        if "Proof.antt" in files:
+            print("left: %s has a Proof.antt still" % folder)
+
+
+if __name__ == "__main__":
+    main()
