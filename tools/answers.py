@@ -6,6 +6,7 @@ NAMES is the names.json that `rt check --generated FOLDER --old-names` writes in
 place its old and its new name. A file proofs/F/Proof.antt is replaced by what of it is still needed: the invariants and measures,
 and each answer that was not left to search. What could not be turned is told, and stands in the files between ⟪ and ⟫.
 """
+import glob
 import json
 import os
 import re
@@ -21,12 +22,71 @@ def norm(name):
     return name.replace("_", "-")
 
 
+def clauses_of(text):
+    """The names of each function's clauses in a source file, in order: by the function, what it requires and what it ensures."""
+    found = {}
+    for m in re.finditer(r"\bfn (\w+)[^;{]*?(?=\n\s*(?:requires|ensures)\b)((?:\n[^\n]*)*?)\n\s*\{\n", text):
+        for kind in ("requires", "ensures"):
+            names = re.findall(r"^\s*%s (\w+) \{" % kind, m.group(2), re.M)
+            if names:
+                found.setdefault(m.group(1), {})[kind] = names
+    return found
+
+
+def all_clauses():
+    found = {}
+    for source in glob.glob("../*/src/**/*.rt", recursive=True):
+        crate, rest = re.match(r"\.\./(\w+)/src/(.*)\.rt$", source).groups()
+        path = [crate] + [p for p in rest.split("/") if p not in ("lib", "main")]
+        for name, kinds in clauses_of(open(source, encoding="utf-8").read()).items():
+            found["::".join(path + [name])] = kinds
+    return found
+
+
+def split_tuple(text):
+    """The parts of a tuple that is a whole term, or None."""
+    text = text.strip()
+    if not (text.startswith("(") and text.endswith(")")):
+        return None
+    depth, parts, start = 0, [], 1
+    for i, ch in enumerate(text):
+        if ch in "([{":
+            depth += 1
+        elif ch in ")]}":
+            depth -= 1
+            if depth == 0 and i < len(text) - 1:
+                return None
+        elif ch == "," and depth == 1:
+            parts.append(text[start:i].strip())
+            start = i + 1
+    last = text[start:-1].strip()
+    if last:
+        parts.append(last)
+    return parts if len(parts) > 1 else None
+
+
+def as_record(body, names):
+    """A body whose value is a tuple, one part for each clause, as a record by the clauses' names."""
+    at = 0
+    for m in re.finditer(r"\bin \(|\bin\n\s*\(|^\s*\(", body):
+        parts = split_tuple(body[m.end() - 1:])
+        if parts and len(parts) == len(names):
+            inner = "".join("\n  %s = %s;" % (n, p) for n, p in zip(names, parts))
+            return body[:m.end() - 1] + "record {" + inner + "\n}"
+    return None
+
+
 class Function:
-    def __init__(self, told):
+    def __init__(self, told, own=None, every=None):
+        self.own = own or {}
+        self.every = every or {}
+        self.clauses = told["clauses"]
+        self.order = list(zip([n[1] for n in told["needs"]], [a[0] for a in told["asked_at"]]))
         self.needs = {}
         for (old, new), at in zip(told["needs"], told["asked_at"]):
             self.needs[norm(old)] = (new, at[0])
         self.places = {p[0]: (i, p[1], p[2]) for i, p in enumerate(told["places"])}
+        self.paths = {p[0]: p[3] for p in told["places"]}
         self.arms = told["arms"]
         self.loops = told["loops"]
         self.changed = told["changed"]
@@ -38,6 +98,13 @@ class Function:
             if form in self.needs:
                 return self.needs[form]
         return None
+
+    def callee(self, new):
+        for name, (_, _, step) in self.places.items():
+            if step[1] and new.startswith(step[1] + "-requires"):
+                path = self.paths.get(name)
+                return self.every.get(path, {})
+        return {}
 
     def up(self, place, parts):
         while parts and parts[0] == "before":
@@ -52,6 +119,8 @@ class Function:
         index, parent, (old, new) = self.places[place]
         step, rest = parts[0], parts[1:]
         if place == "Start":
+            if step in self.own and rest and rest[0].isdigit():
+                return ".".join(["c", step, self.own[step][int(rest[0])]] + rest[1:])
             return "c." + ".".join(parts)
         if norm(step) == norm(old) or re.sub(r"\d+$", "", norm(step)) == re.sub(r"\d+$", "", norm(old)):
             known = [t for t in self.typed.get(place, []) if norm(t[1]) == norm(old)]
@@ -69,6 +138,8 @@ class Function:
                 rest_arm = [r for r in rest]
                 return ".".join(["c", arm[0]] + rest_arm)
             rest = ["type_inv" if r == "type-inv" else r for r in rest]
+            if self.clauses[index] and rest[:1] == ["ensures"] and rest[1:] and rest[1].isdigit() and len(self.clauses[index]["fields"]) > 1:
+                rest[1] = self.clauses[index]["fields"][int(rest[1])]
             return ".".join(["c", new] + rest)
         return None
 
@@ -145,14 +216,15 @@ def trimmed(lines):
     return lines
 
 
-def convert(folder, crate, path_name, told):
+def convert(folder, crate, path_name, told, every):
     file = os.path.join(folder, "Proof.antt")
     text = open(file, encoding="utf-8").read()
-    f = Function(told)
+    f = Function(told, every.get("::".join([crate] + path_name.split(".")), {}), every)
     head, uses, decls = groups(text)
     where = "Rattle.%s.proofs.%s" % (crate, path_name)
     uses = [u for u in uses if ".Statement.{" not in u and not u.endswith(".Tie as tie")]
     invariants, answers, locals_ = [], [], []
+    asked = [g.group(2) for g in (GOAL.match(next((l for l in d if not l.startswith("--")), "")) for d in decls) if g]
     for decl in decls:
         decl = trimmed(decl)
         lines = [l for l in decl if not l.startswith("--")]
@@ -201,13 +273,22 @@ def convert(folder, crate, path_name, told):
             if b.group(2).strip() == "search rules" and not opened:
                 continue
             found = f.need(old)
+            if not found and len(asked) == len(f.order) and asked.count(old) == 1:
+                found = f.order[asked.index(old)]
             if not found:
                 f.left.append("no goal for " + old)
                 locals_.append((said, own, whole))
                 continue
             new, at = found
+            named = None
+            if new.startswith("returns") and "ensures" in f.own:
+                named = f.own["ensures"]
+            elif new.endswith("-requires") or re.search(r"-requires-", new):
+                named = f.callee(new).get("requires")
             given = b.group(1).split()
             inner = f.body(b.group(2), at)
+            if named and re.search(r"(^|in)\s*\(", inner):
+                inner = as_record(inner, named) or inner
             extra = [g for g in given[1:] if re.search(r"(?<![\w-])%s(?![\w-])" % re.escape(g), inner)]
             if extra:
                 f.left.append("%s takes %s" % (own, extra))
@@ -259,6 +340,7 @@ def main():
     told = json.load(open(sys.argv[1], encoding="utf-8"))
     crate = sys.argv[2]
     top = "proofs"
+    every = all_clauses()
     for key in sorted(told):
         name = re.match(r"Rattle-%s-proofs\.(.*)\.Lts$" % crate, key)
         if not name:
@@ -268,7 +350,7 @@ def main():
             continue
         folder = os.path.join(top, *path_name.split("."))
         if os.path.exists(os.path.join(folder, "Proof.antt")) and "tie." in open(os.path.join(folder, "Proof.antt")).read():
-            convert(folder, crate, path_name, told[key])
+            convert(folder, crate, path_name, told[key], every)
     for folder, _, files in os.walk(top):
         if "Proof.antt" in files:
             print("left: %s has a Proof.antt still" % folder)

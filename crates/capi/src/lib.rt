@@ -19,7 +19,7 @@ use schedule::{Chosen, Numbered, Part, Refusal, RunVerdict, Standing, Verdict, W
 // Number 0 for accepted, then usage, c times H, makespan, and the length of the run's plan (0 for a check and an ask), or zeros for
 // a mark, a clear or a keep; otherwise the refusal's number, A, B, 0, 0.
 #[repr(C)]
-#[derive(Drop)]
+#[derive(Clone, Copy)]
 pub struct GridAnswer {
     pub number: u32,
     pub first: u32,
@@ -31,7 +31,7 @@ pub struct GridAnswer {
 // Of wrapped records: number 0, then the record's number, from 0, its first byte in its argument (0 in a pair) and its length;
 // otherwise the refusal's number, A in the place of the record, and 0, 0. `zero` is always 0.
 #[repr(C)]
-#[derive(Drop)]
+#[derive(Clone, Copy)]
 pub struct GridPart {
     pub number: u32,
     pub zero: u32,
@@ -43,7 +43,7 @@ pub struct GridPart {
 // An editing state. What is asked: 1 for a mark and 2 for a clear of `activity` at `tick`; with any other number nothing is asked.
 // No call looks at `total` and `counts`, and each hands them back as they were given.
 #[repr(C)]
-#[derive(Drop)]
+#[derive(Clone, Copy)]
 pub struct GridEditing {
     pub asked: u32,
     pub activity: u32,
@@ -54,7 +54,7 @@ pub struct GridEditing {
 
 // What a call of an editing state answers, and the state afterwards.
 #[repr(C)]
-#[derive(Drop)]
+#[derive(Clone, Copy)]
 pub struct GridStep {
     pub answer: GridAnswer,
     pub state: GridEditing,

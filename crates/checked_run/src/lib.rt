@@ -10,7 +10,7 @@ ghost use Rattle.checked_run.specs.Checked.{ran, checked_numbers, checked_run, K
 
 use schedule::{Refusal, RunVerdict, Verdict, Written};
 
-#[derive(Drop)]
+#[derive(Clone, Copy)]
 pub enum Checked {
     // The run succeeded: its answer, and the plain and the strict verdict on the plan that it wrote.
     Ran(Written, Verdict, Verdict),

@@ -5,7 +5,7 @@
 use schedule::{Refusal, Verdict};
 
 // An edit of an activity's bit at a tick: a mark where `on`, and otherwise a clear.
-#[derive(Drop)]
+#[derive(Clone, Copy)]
 pub struct Edit {
     pub on: bool,
     pub activity: u32,
@@ -13,20 +13,20 @@ pub struct Edit {
 }
 
 // What is asked: nothing, or one edit.
-#[derive(Drop)]
+#[derive(Clone, Copy)]
 pub enum Asked {
     Nothing,
     Edit(Edit),
 }
 
 // "An editing state .. goes through all these calls and the direct edits": it comes in by value and goes out by value.
-#[derive(Drop)]
+#[derive(Clone, Copy)]
 pub struct Editing {
     pub asked: Asked,
 }
 
 // Refusals 58 to 60, of the edit itself. They name no place.
-#[derive(Drop)]
+#[derive(Clone, Copy)]
 pub enum EditRefusal {
     // 58 "activity outside m"
     Activity,
@@ -37,7 +37,7 @@ pub enum EditRefusal {
 }
 
 // Why a call is refused, in the order in which it is tried.
-#[derive(Drop)]
+#[derive(Clone, Copy)]
 pub enum Reason {
     // by the form of a record
     Record(Refusal),
@@ -48,7 +48,7 @@ pub enum Reason {
 }
 
 // What a mark, a clear or a keep answers: "An unrefused call answers no figure."
-#[derive(Drop)]
+#[derive(Clone, Copy)]
 pub enum Edited {
     Done,
     Refused(Reason),
@@ -56,21 +56,21 @@ pub enum Edited {
 
 // What an ask answers: "the plain verdict that the plan would have", which is accepted or one of 21 to 29; or why the edit would
 // be refused, which is never 61.
-#[derive(Drop)]
+#[derive(Clone, Copy)]
 pub enum Told {
     Verdict(Verdict),
     Refused(Reason),
 }
 
 // What a mark, a clear or a keep answers, and the state afterwards.
-#[derive(Drop)]
+#[derive(Clone, Copy)]
 pub struct Step {
     pub answer: Edited,
     pub state: Editing,
 }
 
 // What an ask answers, and the state afterwards.
-#[derive(Drop)]
+#[derive(Clone, Copy)]
 pub struct AskStep {
     pub answer: Told,
     pub state: Editing,

@@ -74,7 +74,7 @@ fn wrapper_holds(w: &[u8]) -> bool
 // ---- one record beside the one standing so far
 
 // What a record is found to be beside the one standing so far: taken, and whether it outranks that one; or refused.
-#[derive(Drop)]
+#[derive(Clone, Copy)]
 enum Compared {
     Taken(bool),
     Refused(WrapRefusal),

@@ -6,7 +6,7 @@ ghost use Rattle.std.specs.Prelude.{◌≡◌, ◌+◌, ◌≤◌, length, drop}
 ghost use Rattle.std.proofs.Math.Seq.{paste};
 ghost use Rattle.input.specs.Filled.{came, FilledFrom};
 
-#[derive(Drop)]
+#[derive(Clone, Copy)]
 pub enum Input {
     // The input ended or the buffer is full: so many bytes stand at the front.
     Bytes(usize),

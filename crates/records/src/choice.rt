@@ -91,7 +91,7 @@ fn over_durations(s: &[u8], q: &[u8]) -> Pass
 }
 
 // What reading a choice beside a model answers.
-#[derive(Drop)]
+#[derive(Clone, Copy)]
 pub enum ChoiceRead {
     Choice,
     Refused(Refusal),

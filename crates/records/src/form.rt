@@ -81,7 +81,7 @@ pub(crate) fn refused(why: FormRefusal) -> Pass
 }
 
 // What the four rules that come first are called in a record.
-#[derive(Drop)]
+#[derive(Clone, Copy)]
 pub(crate) struct Names {
     pub(crate) size: FormRefusal,
     pub(crate) version: FormRefusal,

@@ -13,7 +13,7 @@ mod rows;
 mod timings;
 
 // What one rule, or several in their order, answer: "Each number is tried over all its rows before the next".
-#[derive(Drop)]
+#[derive(Clone, Copy)]
 pub enum Pass {
     Holds,
     Refused(Refusal),

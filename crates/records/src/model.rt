@@ -17,10 +17,10 @@ mod rules;
 
 // "A thread number and an activity number are separate countings: priority is looked up by an activity's thread." Only this
 // file and page make a Thread, so that elsewhere one comes out of an activity's row and from nowhere else.
-#[derive(Drop)]
+#[derive(Clone, Copy)]
 pub struct Thread(u8);
 
-#[derive(Drop)]
+#[derive(Clone, Copy)]
 pub struct Activity(pub u8);
 
 impl Thread {
@@ -33,7 +33,7 @@ impl Thread {
 }
 
 // The counts of a model.
-#[derive(Drop)]
+#[derive(Clone, Copy)]
 pub struct Sizes {
     pub cores: u8,
     pub threads: u8,
@@ -42,7 +42,7 @@ pub struct Sizes {
 }
 
 // "least and most period, least and most release, priority, 2 bytes each"
-#[derive(Drop)]
+#[derive(Clone, Copy)]
 pub struct ThreadRow {
     pub least_period: u16,
     pub most_period: u16,
@@ -52,7 +52,7 @@ pub struct ThreadRow {
 }
 
 // "thread (1), least and most duration (2 each), delay (2), temporal mask (4), data mask (4)".
-#[derive(Drop)]
+#[derive(Clone, Copy)]
 pub struct ActivityRow {
     pub thread: Thread,
     pub least_duration: u16,
@@ -227,7 +227,7 @@ pub(crate) fn in_range(s: &[u8], j: u8, x: Timing) -> bool
 // ---- the form rules
 
 // What reading a model answers.
-#[derive(Drop)]
+#[derive(Clone, Copy)]
 pub enum ModelRead {
     Model(Sizes),
     Refused(Refusal),

@@ -18,7 +18,7 @@ use crate::{Pass, form, grid, model, rows, timings};
 use schedule::{FormRefusal, Refusal};
 
 // The counts at the head of a plan.
-#[derive(Drop)]
+#[derive(Clone, Copy)]
 pub struct PlanSizes {
     pub threads: u8,
     pub activities: u8,
@@ -26,14 +26,14 @@ pub struct PlanSizes {
 }
 
 // A thread's row.
-#[derive(Drop)]
+#[derive(Clone, Copy)]
 pub struct Timing {
     pub release: u16,
     pub period: u16,
 }
 
 // An activity's row.
-#[derive(Drop)]
+#[derive(Clone, Copy)]
 pub struct Span {
     pub start: u16,
     pub end: u16,
@@ -234,7 +234,7 @@ fn over_words(s: &[u8], r: &[u8]) -> Pass
 }
 
 // What reading a plan beside a model answers.
-#[derive(Drop)]
+#[derive(Clone, Copy)]
 pub enum PlanRead {
     Plan,
     Refused(Refusal),

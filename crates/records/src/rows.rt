@@ -9,7 +9,7 @@ use crate::{Pass, form};
 use schedule::{FormRefusal, Refusal};
 
 // A row of one of the three records.
-#[derive(Drop)]
+#[derive(Clone, Copy)]
 pub enum Row {
     // of a model
     Thread(ThreadRow),
@@ -23,7 +23,7 @@ pub enum Row {
 }
 
 // The row, or the refusal of the rule that was tried at it.
-#[derive(Drop)]
+#[derive(Clone, Copy)]
 pub enum RowRead {
     Row(Row),
     Refused(Refusal),

@@ -3,14 +3,14 @@
 // "A and B are the place", 0 where none is named.
 #![tactic(auto)]
 
-#[derive(Drop)]
+#[derive(Clone, Copy)]
 pub struct Place {
     pub a: u32,
     pub b: u32,
 }
 
 // The rules of a model's rows, in the order in which they are tried.
-#[derive(Drop)]
+#[derive(Clone, Copy)]
 pub enum RowRule {
     // 5 "thread row A: a least above its most, or least period 0 with most above 0"
     Thread,
@@ -27,7 +27,7 @@ pub enum RowRule {
 }
 
 // Refusals 1 to 14, 51 to 53 and 57, "From the input", in the order in which they are tried.
-#[derive(Drop)]
+#[derive(Clone, Copy)]
 pub enum FormRefusal {
     // 1 "model under 10 bytes, or its length differs from the bytes given"
     ModelSize,
@@ -58,7 +58,7 @@ pub enum FormRefusal {
 }
 
 // The rules of "The checks" that are tried at activities: A is an activity. 24 is out of the book (02).
-#[derive(Drop)]
+#[derive(Clone, Copy)]
 pub enum ActivityRule {
     // 21 "window: start < end ≤ H, bits set at start and end − 1, none outside"
     Window,
@@ -76,7 +76,7 @@ pub enum ActivityRule {
 
 // Those that are tried at ticks: A is a tick. "The ones in a word become the sum of active widths in 28 to 31", and not every
 // waiting B counts (02).
-#[derive(Drop)]
+#[derive(Clone, Copy)]
 pub enum TickRule {
     // 28 "at most c ones in the word"
     Cores,
@@ -89,14 +89,14 @@ pub enum TickRule {
 }
 
 // Refusals 21 to 31: the rule that is broken.
-#[derive(Drop)]
+#[derive(Clone, Copy)]
 pub enum RuleRefusal {
     Activity(ActivityRule),
     Tick(TickRule),
 }
 
 // Refusals 41 to 43, "From the state of the buffer or run", and 50, of a lent list.
-#[derive(Drop)]
+#[derive(Clone, Copy)]
 pub enum RunRefusal {
     // 41 "buffer shorter than the plan; A is the length needed"
     Room,
@@ -109,7 +109,7 @@ pub enum RunRefusal {
 }
 
 // "A refusal answers its number, A and B"
-#[derive(Drop)]
+#[derive(Clone, Copy)]
 pub enum Refusal {
     Form(FormRefusal, Place),
     Rule(RuleRefusal, Place),
@@ -117,7 +117,7 @@ pub enum Refusal {
 }
 
 // The same in the paper's numbers.
-#[derive(Drop)]
+#[derive(Clone, Copy)]
 pub struct Numbered {
     pub number: u32,
     pub a: u32,
@@ -125,7 +125,7 @@ pub struct Numbered {
 }
 
 // "A pass answers usage (all ones), c times H, makespan": usage "in core ticks" (02).
-#[derive(Drop)]
+#[derive(Clone, Copy)]
 pub struct Figures {
     pub usage: u32,
     pub capacity: u32,
@@ -133,35 +133,35 @@ pub struct Figures {
 }
 
 // What a check answers.
-#[derive(Drop)]
+#[derive(Clone, Copy)]
 pub enum Verdict {
     Accepted(Figures),
     Refused(Refusal),
 }
 
 // "It answers the length, usage, c times H, and makespan"
-#[derive(Drop)]
+#[derive(Clone, Copy)]
 pub struct Written {
     pub length: u32,
     pub figures: Figures,
 }
 
 // What the run answers, and the report of lateness.
-#[derive(Drop)]
+#[derive(Clone, Copy)]
 pub enum RunVerdict {
     Accepted(Written),
     Refused(Refusal),
 }
 
 // What a held view gives: "the word at a tick, or past for a tick ≥ H"
-#[derive(Drop)]
+#[derive(Clone, Copy)]
 pub enum WordAt {
     Word(u32),
     Past,
 }
 
 // Refusals 54 to 56, of wrapped records (02).
-#[derive(Drop)]
+#[derive(Clone, Copy)]
 pub enum WrapRefusal {
     // 54 "for an empty file, or a wrapper whose length .., version or flag is wrong or whose model is refused"
     Wrapper,
@@ -172,7 +172,7 @@ pub enum WrapRefusal {
 }
 
 // Which of two wrapped records stands; a refusal has A, the record tried, from 0.
-#[derive(Drop)]
+#[derive(Clone, Copy)]
 pub enum Standing {
     First,
     Second,
@@ -180,7 +180,7 @@ pub enum Standing {
 }
 
 // A record as a part of the caller's bytes: its number, from 0, where its first byte stands, and how many bytes it has.
-#[derive(Drop)]
+#[derive(Clone, Copy)]
 pub struct Part {
     pub index: usize,
     pub offset: usize,
@@ -188,7 +188,7 @@ pub struct Part {
 }
 
 // Which record of a file is chosen, and where it lies; a refusal has A, the record tried, from 0.
-#[derive(Drop)]
+#[derive(Clone, Copy)]
 pub enum Chosen {
     Record(Part),
     Refused(WrapRefusal, usize),

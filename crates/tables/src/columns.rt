@@ -9,7 +9,7 @@ use records::model::{Activity, owner};
 
 // What a column holds: of the model, or of the second record, whose bytes are read as the choice's or the plan's that the name
 // says.
-#[derive(Drop)]
+#[derive(Clone, Copy)]
 pub enum Column {
     // the model's
     Delay,

@@ -65,7 +65,7 @@ fn latest_end(r: &[u8], n: u8) -> u32
 }
 
 // The second record, whose rows of release and period are read: a choice, or a plan.
-#[derive(Drop)]
+#[derive(Clone, Copy)]
 pub enum Second {
     Choice,
     Plan,

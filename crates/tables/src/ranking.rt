@@ -9,7 +9,7 @@ use crate::{ByActivity, columns};
 use records::model::Activity;
 
 // In what sense one activity comes before another.
-#[derive(Drop)]
+#[derive(Clone, Copy)]
 pub enum Order {
     // by a higher priority
     Higher,

@@ -75,7 +75,7 @@ pub fn sooner(next: u32, other: u32, t: u32) -> u32
 }
 
 // A word, and the tick before which it stays.
-#[derive(Drop)]
+#[derive(Clone, Copy)]
 pub struct Kept {
     pub word: u32,
     pub until: u32,

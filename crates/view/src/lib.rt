@@ -15,7 +15,7 @@ use records::plan::PlanRead;
 use schedule::WordAt;
 
 // "a struct over the plan's grid slice", and what its making answered.
-#[derive(Drop)]
+#[derive(Clone, Copy)]
 pub struct View<'a> {
     pub grid: &'a [u8],
     pub made: Pass,

@@ -1,0 +1,18 @@
+-- `model::rules::over_rows` meets its contract. The invariant: no row so far breaks the rule. The measure is what is left of the
+-- rows.
+-- Assumes nothing.
+use Prim.Native.Nat.{◌-◌, ◌≤◌}
+use native.Mathlib.Omega.{arith}
+use mathlib.Core.Path.{sym}
+use Rattle.schedule.specs.Model.{page, row_rule}
+use Rattle.laws.proofs.RowLaws.{ClearTo, clear-start}
+use Rattle.records.proofs.Reading.{row-refused, row-taken, rows_end}
+use Rattle.records.proofs.RowOrder.{row-columns}
+use borrow.Author.Rules.{rules}
+use Rattle.records.proofs.model.rules.over_rows.Given as goal
+
+abbrev pub invariant-loop-number : goal.invariant-loop-number
+invariant-loop-number l = (l.number ≤ l.rows) × ClearTo (row_rule l.rule (page l.s)) l.number
+
+abbrev pub decreases-loop-number : goal.decreases-loop-number
+decreases-loop-number l = l.rows - l.number

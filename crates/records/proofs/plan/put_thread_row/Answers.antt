@@ -1,0 +1,9 @@
+-- `plan::put_thread_row` meets its contract: the row at its place.
+-- Assumes nothing.
+use Rattle.records.proofs.WriteLaws.{put_at}
+use borrow.Author.Rules.{rules}
+use Rattle.records.proofs.plan.put_thread_row.Goals as goal
+
+pub returns : goal.returns
+returns c =
+    put_at _ _ _ _ _ c.put_pair.ensures c.row_at.ensures

@@ -1,0 +1,41 @@
+use Prim.Native.Nat.{◌-◌, ◌≤◌}
+use native.Mathlib.Omega.{arith}
+use mathlib.Core.Path.{refl, sym, ap}
+use Rattle.schedule.specs.Model.{model}
+use Rattle.schedule.specs.Choice.{range_rule}
+use Rattle.laws.proofs.RowLaws.{ClearTo, clear-start}
+use Rattle.records.specs.declared.model.Sizes.{Sizes}
+use Rattle.records.specs.Rows.{sizes_of, timing_rule}
+use Rattle.records.proofs.Reading.{row-refused, row-taken, rows_end}
+use borrow.Author.Rules.{rules}
+use Rattle.records.proofs.timings.over_timings.Goals as goal
+
+pub loop-j-init : goal.loop-j-init
+loop-j-init c = (omega arith, clear-start _)
+
+pub returns-in_default : goal.returns-in_default
+unfolding range_rule sizes_of
+returns-in_default c =
+    row-refused _ _ _ _ refl c.loop-j.invariant.1 c.read_timing-read.ensures _ _
+    (omega (arith, ap (λ (y : Sizes). y.threads) c.counts-sizes.ensures))
+    c.in_default.is c.pass.ensures
+
+pub overflow_add-j : goal.overflow_add-j
+overflow_add-j c = omega arith
+
+pub loop-j-smaller : goal.loop-j-smaller
+loop-j-smaller c = omega arith
+
+pub loop-j-preserved : goal.loop-j-preserved
+unfolding range_rule
+loop-j-preserved c =
+    let j = c.loop-j in (
+      omega arith,
+      row-taken _ _ _ _ refl j.invariant.1 c.read_timing-read.ensures _ c.in-Row.is,
+    )
+
+pub returns : goal.returns
+unfolding range_rule sizes_of
+returns c =
+    let whole = ap (λ (y : Sizes). y.threads) c.counts-sizes.ensures in
+    sym (rows_end _ _ (omega (arith, whole)) c.loop-j.invariant.1)

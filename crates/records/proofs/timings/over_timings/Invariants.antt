@@ -1,0 +1,20 @@
+-- `timings::over_timings` meets its contract. The invariant: no row before j breaks rule 12. The measure is what is left of
+-- them.
+-- Assumes nothing.
+use Prim.Native.Nat.{◌-◌, ◌≤◌}
+use native.Mathlib.Omega.{arith}
+use mathlib.Core.Path.{refl, sym, ap}
+use Rattle.schedule.specs.Model.{model}
+use Rattle.schedule.specs.Choice.{range_rule}
+use Rattle.laws.proofs.RowLaws.{ClearTo, clear-start}
+use Rattle.records.specs.declared.model.Sizes.{Sizes}
+use Rattle.records.specs.Rows.{sizes_of, timing_rule}
+use Rattle.records.proofs.Reading.{row-refused, row-taken, rows_end}
+use borrow.Author.Rules.{rules}
+use Rattle.records.proofs.timings.over_timings.Given as goal
+
+abbrev pub invariant-loop-j : goal.invariant-loop-j
+invariant-loop-j l = (l.j ≤ l.threads) × ClearTo (timing_rule (model l.s) l.r l.first) l.j
+
+abbrev pub decreases-loop-j : goal.decreases-loop-j
+decreases-loop-j l = l.threads - l.j
