@@ -19,39 +19,39 @@ offset_bounds-counts-a c =
 
 pub bounds-counts-a : goal.bounds-counts-a
 bounds-counts-a c =
-    let l = ⟪c.before.before.loop⟫ in
-    omega (arith, l.invariant.1, lowest_lt l.rest _ l.invariant.0 ⟪c.before.loop-test.true⟫ ⟪c.lowest.ensures⟫)
+    let l = c.loop-rest in
+    omega (arith, l.invariant.1, lowest_lt l.rest _ l.invariant.0 c.loop-rest-test.true c.lowest-a.ensures)
 
 pub overflow_add-counts : goal.overflow_add-counts
 overflow_add-counts c =
-    let l = ⟪c.before.before.before.loop⟫ in
-    let low = lowest_lt l.rest _ l.invariant.0 ⟪c.before.before.loop-test.true⟫ ⟪c.before.lowest.ensures⟫ in
+    let l = c.loop-rest in
+    let low = lowest_lt l.rest _ l.invariant.0 c.loop-rest-test.true c.lowest-a.ensures in
     omega (
       arith,
-      l.invariant.2 ⟪c.before.lowest.result⟫ low,
-      ⟪c4.requires.1⟫ ⟪c.before.lowest.result⟫,
-      at_most_one (bit ⟪c4.args.word⟫ ⟪c.before.lowest.result⟫),
+      l.invariant.2 c.lowest-a.result low,
+      c.requires.1 c.lowest-a.result,
+      at_most_one (bit c.args.word c.lowest-a.result),
     )
 
 pub bounds-counts-a-in-loop-rest : goal.bounds-counts-a-in-loop-rest
 bounds-counts-a-in-loop-rest c =
-    let l = ⟪c.before.before.before.loop⟫ in
-    omega (arith, l.invariant.1, lowest_lt l.rest _ l.invariant.0 ⟪c.before.before.loop-test.true⟫ ⟪c.before.lowest.ensures⟫)
+    let l = c.loop-rest in
+    omega (arith, l.invariant.1, lowest_lt l.rest _ l.invariant.0 c.loop-rest-test.true c.lowest-a.ensures)
 
 pub loop-rest-smaller : goal.loop-rest-smaller
 loop-rest-smaller c =
-    let l = ⟪c3.before.loop⟫ in
-    let less = rest_less l.rest _ l.invariant.0 ⟪c3.loop-test.true⟫ ⟪c.before.before.lowest.ensures⟫ in
+    let l = c.loop-rest in
+    let less = rest_less l.rest _ l.invariant.0 c.loop-rest-test.true c.lowest-a.ensures in
     omega (arith, c.without-rest.ensures, less)
 
 pub loop-rest-preserved : goal.loop-rest-preserved
 loop-rest-preserved c =
-    let l = ⟪c3.before.loop⟫ in (
+    let l = c.loop-rest in (
       c.without-rest.type_inv,
       simp length-set l.invariant.1,
       λ i h.
           rw c.without-rest.ensures
-          (tally_next l.rest _ l.invariant.0 ⟪c3.loop-test.true⟫ ⟪c.before.before.lowest.ensures⟫ l.counts l.invariant.1 i h
+          (tally_next l.rest _ l.invariant.0 c.loop-rest-test.true c.lowest-a.ensures l.counts l.invariant.1 i h
           ∙ l.invariant.2 i h),
     )
 

@@ -30,7 +30,7 @@ loop-a-smaller c = omega arith
 
 pub loop-a-preserved : goal.loop-a-preserved
 loop-a-preserved c =
-    let l = ⟪c.before.before.before.before.loop⟫ in
+    let l = c.loop-a in
     let step = c.has-yes in
     (omega arith, rw (c.mark-word.ensures, l.invariant.1) (mark_next l.a _ step.result (omega arith) step.ensures))
 

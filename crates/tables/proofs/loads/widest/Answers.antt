@@ -27,8 +27,8 @@ loop-a-smaller c = omega arith
 
 pub loop-a-preserved : goal.loop-a-preserved
 loop-a-preserved c =
-    let l = ⟪c.before.before.before.loop⟫ in
-    let x = ⟪c.before.before.before.before.args⟫ in (
+    let l = c.loop-a in
+    let x = c.args in (
       omega arith,
       c.larger-most.ensures
           ∙ ap (λ k. max k (get_or x.column.now l.a 0)) l.invariant.1
