@@ -18,8 +18,18 @@ DECLARED = re.compile(r"^(?:abbrev )?(?:pub )?([^\s(){}:]+)(?: \([^\n]*\))? :")
 GOAL = re.compile(r"^(?:pub )?(\S+) : tie\.Need-(\S+)")
 
 
+def former():
+    """The names before tools/respell.py, by those that it gave."""
+    with open(os.path.join(os.path.dirname(os.path.abspath(__file__)), "respell.names"), encoding="utf-8") as lines:
+        return {new: old for old, new in (line.split() for line in lines) if "-" in old}
+
+
+FORMER = former()
+
+
 def norm(name):
-    return name.replace("_", "-")
+    name = re.sub(r"_lem$", "", name)
+    return FORMER.get(name, name).replace("_", "-") if "-" not in name else name.replace("_", "-")
 
 
 def clauses_of(text):
@@ -121,6 +131,8 @@ class Function:
         if place == "Start":
             if step in self.own and rest and rest[0].isdigit():
                 return ".".join(["c", step, self.own[step][int(rest[0])]] + rest[1:])
+            if step == "args":
+                parts = ["args"] + [rest[0].replace("-", "_")] + rest[1:] if rest else parts
             return "c." + ".".join(parts)
         if norm(step) == norm(old) or re.sub(r"\d+$", "", norm(step)) == re.sub(r"\d+$", "", norm(old)):
             known = [t for t in self.typed.get(place, []) if norm(t[1]) == norm(old)]
@@ -179,7 +191,21 @@ class Function:
                 return "⟪%s⟫" % m.group(0)
             return done
 
-        return PATH.sub(turn, rest)
+        done = PATH.sub(turn, rest)
+        done = re.sub(r"\bnot-(true|false) (?:\([^()]*\)|[^\s()]+) (c\.if-not-[^\s(),]*\.\1)(?![\w.-])", r"\2", done)
+        steps = {p[2][1]: i for p, i in ((self.places[n], self.places[n][0]) for n in self.places) if p[2][1]}
+        for m in re.finditer(r"let ([^\s:=]+) = c\.([^\s.]+)\.ensures in", done):
+            index = steps.get(m.group(2))
+            if index is not None and self.clauses[index] and len(self.clauses[index]["fields"]) > 1:
+                fields = self.clauses[index]["fields"]
+                done = re.sub(r"(?<![\w.'-])%s\.(\d)" % re.escape(m.group(1)), lambda w: "%s.%s" % (m.group(1), fields[int(w.group(1))]), done)
+        for m in re.finditer(r"let ([^\s:=]+) = c\.requires in", done):
+            if "requires" in self.own:
+                names = self.own["requires"]
+                done = re.sub(r"(?<![\w.'-])%s\.(\d)" % re.escape(m.group(1)), lambda w: "%s.%s" % (m.group(1), names[int(w.group(1))]), done)
+        for m in re.finditer(r"let ([^\s:=]+) = c\.args in", done):
+            done = re.sub(r"(?<![\w.'-])%s\.([\w-]+)" % re.escape(m.group(1)), lambda w: "%s.%s" % (m.group(1), w.group(1).replace("-", "_")), done)
+        return done
 
 
 def groups(text):
@@ -289,10 +315,10 @@ def convert(folder, crate, path_name, told, every):
             inner = f.body(b.group(2), at)
             if named and re.search(r"(^|in)\s*\(", inner):
                 inner = as_record(inner, named) or inner
-            extra = [g for g in given[1:] if re.search(r"(?<![\w-])%s(?![\w-])" % re.escape(g), inner)]
-            if extra:
-                f.left.append("%s takes %s" % (own, extra))
-            answers.append((said, "pub %s : goal.%s\n%s%s c =%s" % (new, new, "".join(o + "\n" for o in opened), new, inner)))
+            more = "".join(" " + g for g in given[1:] if g != "κs")
+            if re.search(r"(?<![\w-])κs(?![\w-])", inner):
+                f.left.append("%s takes κs" % own)
+            answers.append((said, "pub %s : goal.%s\n%s%s c%s =%s" % (new, new, "".join(o + "\n" for o in opened), new, more, inner)))
             continue
         if "tie.close" in whole or "tie.spec" in whole:
             continue
