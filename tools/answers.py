@@ -117,11 +117,13 @@ class Function:
         return {}
 
     def up(self, place, parts):
+        if place is None:
+            return None, [p for p in parts if p != "before"]
         while parts and parts[0] == "before":
             place = self.places[place][1]
             parts = parts[1:]
             if place is None:
-                return None, parts
+                return None, [p for p in parts if p != "before"]
         return place, parts
 
     def field(self, place, parts):
@@ -155,6 +157,25 @@ class Function:
             return ".".join(["c", new] + rest)
         return None
 
+    def nearest(self, place, at, parts):
+        """The same of a place that has the step, where today's steps are more than there were: the nearest to the one meant."""
+        if parts[0] in ("args", "requires", "ranges"):
+            return self.field("Start", parts)
+        chain = []
+        while place is not None:
+            chain.append(place)
+            place = self.places[place][1]
+        meant = chain.index(at) if at in chain else len(chain)
+        for name in sorted(chain, key=lambda n: abs(chain.index(n) - meant)):
+            if name != "Start" and norm(parts[0]) == norm(self.places[name][2][0]):
+                return self.field(name, parts)
+        for name in sorted(chain, key=lambda n: abs(chain.index(n) - meant)):
+            if name != "Start":
+                done = self.field(name, parts)
+                if done:
+                    return done
+        return None
+
     def body(self, text, place):
         env = {"c": place}
         rest = text
@@ -179,6 +200,8 @@ class Function:
                 return m.group(0)
             parts = path[1:].split(".") if path else []
             at, parts = self.up(env[head], parts)
+            if at is None and parts:
+                at = "Start"
             if at is None or not parts:
                 if head == "c" and not path:
                     self.left.append(m.group(0))
@@ -186,6 +209,8 @@ class Function:
                 self.left.append(m.group(0))
                 return "⟪%s⟫" % m.group(0)
             done = self.field(at, parts)
+            if done is None:
+                done = self.nearest(place, at, parts)
             if done is None:
                 self.left.append("%s at %s" % (m.group(0), at))
                 return "⟪%s⟫" % m.group(0)
