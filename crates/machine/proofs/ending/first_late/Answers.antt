@@ -38,7 +38,7 @@ returns-then-not-on_time c =
     let l = c.loop-a in
     let p : ℕ → Bool = λ a. not (in_time_from x.releases.now x.periods.now x.ends.now a) in
     found_here x.n p l.a (not c.on_time.result) (omega arith) l.invariant.1
-    (ap not c.on_time.ensures) (subst T (sym c.if-not-on_time.true) tt)
+    (ap not c.on_time.ensures) (subst T (sym (ap not c.if-not-on_time.true)) tt)
 
 pub overflow_add-a : goal.overflow_add-a
 overflow_add-a c = omega arith
@@ -54,7 +54,7 @@ loop-a-preserved c =
     let p : ℕ → Bool = λ a. not (in_time_from x.releases.now x.periods.now x.ends.now a) in (
       omega arith,
       clear-more p l.a (not c.on_time.result) l.invariant.1 (ap not c.on_time.ensures)
-          (λ t. subst T c.if-not-on_time.false t),
+          (λ t. subst T (ap not c.if-not-on_time.false) t),
     )
 
 pub returns : goal.returns
