@@ -8,6 +8,7 @@ ghost use Rattle.schedule.specs.Streams.{input_limit};
 ghost use Rattle.schedule.specs.Lines.{gridrun};
 
 use input::Input;
+use std::io;
 
 // "at most 17,189 bytes of standard input"
 const LIMIT: usize = 17189;
@@ -53,17 +54,11 @@ fn answer(input: &[u8; LIMIT], read: usize) -> Lines
 }
 
 // Where a read fails nothing is printed.
-fn main() {
+fn main(rt: HostRuntime) -> io::Result<()> {
     let mut bytes = [0u8; LIMIT];
-    let read = input::fill(&mut bytes);
-    let Input::Bytes(n) = read else {
-        os::fail(b"gridrun: standard input");
-        return;
+    let Input::Bytes(n) = input::fill(&mut rt.stdin(), &mut bytes) else {
+        return Err(io::Error::other("gridrun: standard input"));
     };
     let lines = answer(&bytes, n);
-    let text = lines.bytes;
-    let length = lines.length;
-    if !io::write_all(libc::STDOUT_FILENO, &text[0..length]) {
-        os::fail(b"gridrun: standard output");
-    }
+    rt.write_all(&lines.bytes[..lines.length])
 }
