@@ -18,8 +18,18 @@ DECLARED = re.compile(r"^(?:abbrev )?(?:pub )?([^\s(){}:]+)(?: \([^\n]*\))? :")
 GOAL = re.compile(r"^(?:pub )?(\S+) : tie\.Need-(\S+)")
 
 
+def former():
+    """The names before tools/respell.py, by those that it gave."""
+    with open(os.path.join(os.path.dirname(os.path.abspath(__file__)), "respell.names"), encoding="utf-8") as lines:
+        return {new: old for old, new in (line.split() for line in lines) if "-" in old}
+
+
+FORMER = former()
+
+
 def norm(name):
-    return name.replace("_", "-")
+    name = re.sub(r"_lem$", "", name)
+    return FORMER.get(name, name).replace("_", "-") if "-" not in name else name.replace("_", "-")
 
 
 def clauses_of(text):
@@ -107,11 +117,13 @@ class Function:
         return {}
 
     def up(self, place, parts):
+        if place is None:
+            return None, [p for p in parts if p != "before"]
         while parts and parts[0] == "before":
             place = self.places[place][1]
             parts = parts[1:]
             if place is None:
-                return None, parts
+                return None, [p for p in parts if p != "before"]
         return place, parts
 
     def field(self, place, parts):
@@ -121,6 +133,8 @@ class Function:
         if place == "Start":
             if step in self.own and rest and rest[0].isdigit():
                 return ".".join(["c", step, self.own[step][int(rest[0])]] + rest[1:])
+            if step == "args":
+                parts = ["args"] + [rest[0].replace("-", "_")] + rest[1:] if rest else parts
             return "c." + ".".join(parts)
         if norm(step) == norm(old) or re.sub(r"\d+$", "", norm(step)) == re.sub(r"\d+$", "", norm(old)):
             known = [t for t in self.typed.get(place, []) if norm(t[1]) == norm(old)]
@@ -141,6 +155,25 @@ class Function:
             if self.clauses[index] and rest[:1] == ["ensures"] and rest[1:] and rest[1].isdigit() and len(self.clauses[index]["fields"]) > 1:
                 rest[1] = self.clauses[index]["fields"][int(rest[1])]
             return ".".join(["c", new] + rest)
+        return None
+
+    def nearest(self, place, at, parts):
+        """The same of a place that has the step, where today's steps are more than there were: the nearest to the one meant."""
+        if parts[0] in ("args", "requires", "ranges"):
+            return self.field("Start", parts)
+        chain = []
+        while place is not None:
+            chain.append(place)
+            place = self.places[place][1]
+        meant = chain.index(at) if at in chain else len(chain)
+        for name in sorted(chain, key=lambda n: abs(chain.index(n) - meant)):
+            if name != "Start" and norm(parts[0]) == norm(self.places[name][2][0]):
+                return self.field(name, parts)
+        for name in sorted(chain, key=lambda n: abs(chain.index(n) - meant)):
+            if name != "Start":
+                done = self.field(name, parts)
+                if done:
+                    return done
         return None
 
     def body(self, text, place):
@@ -167,6 +200,8 @@ class Function:
                 return m.group(0)
             parts = path[1:].split(".") if path else []
             at, parts = self.up(env[head], parts)
+            if at is None and parts:
+                at = "Start"
             if at is None or not parts:
                 if head == "c" and not path:
                     self.left.append(m.group(0))
@@ -175,11 +210,27 @@ class Function:
                 return "⟪%s⟫" % m.group(0)
             done = self.field(at, parts)
             if done is None:
+                done = self.nearest(place, at, parts)
+            if done is None:
                 self.left.append("%s at %s" % (m.group(0), at))
                 return "⟪%s⟫" % m.group(0)
             return done
 
-        return PATH.sub(turn, rest)
+        done = PATH.sub(turn, rest)
+        done = re.sub(r"\bnot-(true|false) (?:\([^()]*\)|[^\s()]+) (c\.if-not-[^\s(),]*\.\1)(?![\w.-])", r"\2", done)
+        steps = {p[2][1]: i for p, i in ((self.places[n], self.places[n][0]) for n in self.places) if p[2][1]}
+        for m in re.finditer(r"let ([^\s:=]+) = c\.([^\s.]+)\.ensures in", done):
+            index = steps.get(m.group(2))
+            if index is not None and self.clauses[index] and len(self.clauses[index]["fields"]) > 1:
+                fields = self.clauses[index]["fields"]
+                done = re.sub(r"(?<![\w.'-])%s\.(\d)" % re.escape(m.group(1)), lambda w: "%s.%s" % (m.group(1), fields[int(w.group(1))]), done)
+        for m in re.finditer(r"let ([^\s:=]+) = c\.requires in", done):
+            if "requires" in self.own:
+                names = self.own["requires"]
+                done = re.sub(r"(?<![\w.'-])%s\.(\d)" % re.escape(m.group(1)), lambda w: "%s.%s" % (m.group(1), names[int(w.group(1))]), done)
+        for m in re.finditer(r"let ([^\s:=]+) = c\.args in", done):
+            done = re.sub(r"(?<![\w.'-])%s\.([\w-]+)" % re.escape(m.group(1)), lambda w: "%s.%s" % (m.group(1), w.group(1).replace("-", "_")), done)
+        return done
 
 
 def groups(text):
@@ -289,10 +340,10 @@ def convert(folder, crate, path_name, told, every):
             inner = f.body(b.group(2), at)
             if named and re.search(r"(^|in)\s*\(", inner):
                 inner = as_record(inner, named) or inner
-            extra = [g for g in given[1:] if re.search(r"(?<![\w-])%s(?![\w-])" % re.escape(g), inner)]
-            if extra:
-                f.left.append("%s takes %s" % (own, extra))
-            answers.append((said, "pub %s : goal.%s\n%s%s c =%s" % (new, new, "".join(o + "\n" for o in opened), new, inner)))
+            more = "".join(" " + g for g in given[1:] if g != "κs")
+            if re.search(r"(?<![\w-])κs(?![\w-])", inner):
+                f.left.append("%s takes κs" % own)
+            answers.append((said, "pub %s : goal.%s\n%s%s c%s =%s" % (new, new, "".join(o + "\n" for o in opened), new, more, inner)))
             continue
         if "tie.close" in whole or "tie.spec" in whole:
             continue

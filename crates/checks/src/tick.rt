@@ -78,7 +78,7 @@ fn contending(waiting: u32, word: u32, cores: u32, widths: Widths, befores: &[u3
 }
 
 // A tick as the rules see it: the active activities, and those whose window is open, which wait where they are not active.
-#[derive(Drop)]
+#[derive(Clone, Copy)]
 struct Snapshot {
     word: u32,
     opened: u32,

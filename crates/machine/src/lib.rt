@@ -18,14 +18,14 @@ use tables::ranking::Order;
 use tick::Tables;
 
 // The machine's state: "for each activity the ticks still owed, and its end once nothing is owed".
-#[derive(Drop)]
+#[derive(Clone, Copy)]
 struct State {
     owed: [u32; 32],
     ends: [u32; 32],
 }
 
 // "The run succeeds if nothing is owed and each end keeps the deadline (rule 23)", else 42 or 43; or the machine was not played.
-#[derive(Drop)]
+#[derive(Clone, Copy)]
 pub enum Judged {
     Succeeds,
     Refused(Refusal),
@@ -33,7 +33,7 @@ pub enum Judged {
 }
 
 // How the machine ends: the ends by activity, and how they are judged.
-#[derive(Drop)]
+#[derive(Clone, Copy)]
 pub struct Played {
     pub ends: [u32; 32],
     pub judged: Judged,

@@ -94,7 +94,7 @@ fn ready(n: usize, tables: &Tables, owed: &[u32; 32], past: u32, over: u32, t: u
 // ---- what is taken
 
 // How far the walk along the ranking has come: the ready that are still to come, what it has taken, and the cores left.
-#[derive(Drop)]
+#[derive(Clone, Copy)]
 struct Walk {
     rest: u32,
     word: u32,

@@ -19,11 +19,11 @@ use Rattle.records.specs.declared.rows.RowRead.{RowRead}
 use Rattle.records.specs.Reads.{refusal_of, answer_at, row_answer, row_read_numbers, pass_numbers, pass_of, pick}
 
 -- a call that tells a test said no, or yes
-pub told_no : {r s : Bool} → r ≡ s → not r ≡ true → s ≡ false
-told_no {r} e n = sym e ∙ not-true r n
+pub told_no : {r s : Bool} → r ≡ s → r ≡ false → s ≡ false
+told_no e n = sym e ∙ n
 
-pub told-yes : {r s : Bool} → r ≡ s → not r ≡ false → s ≡ true
-told-yes {r} e n = sym e ∙ not-false r n
+pub told-yes : {r s : Bool} → r ≡ s → r ≡ true → s ≡ true
+told-yes e n = sym e ∙ n
 
 -- ---- a row
 

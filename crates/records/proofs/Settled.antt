@@ -35,9 +35,9 @@ loop_settled s loops e none-there =
 
 -- 57, where there are no widths and at least one core
 pub width_settled : (s : List ℕ) (widths : Bool) (cores : ℕ) → widths ≡ not (older s)
-    → cores ≡ (page s).plain.cores → not widths ≡ true → leb 1 cores ≡ true → break (width_rule (page s).plain) ≡ none
+    → cores ≡ (page s).plain.cores → widths ≡ false → leb 1 cores ≡ true → break (width_rule (page s).plain) ≡ none
 unfolding width_rule page
 width_settled s widths cores e same none-there core =
-    let is-older : older s ≡ true = not-false _ (sym e ∙ not-true widths none-there) in
+    let is-older : older s ≡ true = not-false _ (sym e ∙ none-there) in
     let held : T (leb 1 (page s).plain.cores) = subst T (sym (ap (leb 1) (sym same) ∙ core)) tt in
     unbroken (width_rule (page s).plain) (λ a b. rw (is-older) held)

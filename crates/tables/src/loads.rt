@@ -11,7 +11,7 @@ use numbers::{larger, smaller};
 
 // The widths of a model's activities by binary digits: plane j holds those whose width has the digit worth 2 to the power j.
 // The planes from `depth` on are empty.
-#[derive(Drop)]
+#[derive(Clone, Copy)]
 pub struct Widths {
     pub planes: [u32; 8],
     pub depth: u32,

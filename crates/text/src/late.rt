@@ -19,7 +19,7 @@ pub(crate) fn line_count(answer: RunVerdict, activities: u8) -> u32
 // ---- a row
 
 // What is printed of a figure: "a dash", or the sign and the size.
-#[derive(Drop)]
+#[derive(Clone, Copy)]
 struct Row {
     dash: bool,
     negative: bool,

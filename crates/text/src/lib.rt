@@ -27,7 +27,7 @@ fn word_at(plan: &[u8], t: u32) -> u32
 // ---- what is said of an answer
 
 // "`accepted` and the three figures, or `refused` and number, A, B": which of them, and the three numbers.
-#[derive(Drop)]
+#[derive(Clone, Copy)]
 struct Said {
     passed: bool,
     a: u32,

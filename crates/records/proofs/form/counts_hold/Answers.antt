@@ -8,13 +8,13 @@ use borrow.Author.Rules.{rules}
 use Rattle.records.proofs.form.counts_hold.Goals as goal
 
 pub returns-then-not-same_horizon : goal.returns-then-not-same_horizon
-returns-then-not-same_horizon c = rw (not-true c.args.same-horizon c.if-not-same_horizon.true)
+returns-then-not-same_horizon c = rw (c.if-not-same_horizon.true)
 
 pub returns-then-byte-sizes : goal.returns-then-byte-sizes
 unfolding counts_hold sizes_of
 returns-then-byte-sizes c =
     rw (
-      not-false c.args.same-horizon c.if-not-same_horizon.false,
+      c.if-not-same_horizon.false,
       ← c.byte.ensures,
       ← ap (λ (y : Sizes). y.threads) c.counts-sizes.ensures,
       ne_eqb _ _ c.if-byte-sizes.true,
@@ -24,7 +24,7 @@ pub returns : goal.returns
 unfolding counts_hold sizes_of
 returns c =
     rw (
-      not-false c.args.same-horizon c.if-not-same_horizon.false,
+      c.if-not-same_horizon.false,
       ← c.byte.ensures,
       ← ap (λ (y : Sizes). y.threads) c.counts-sizes.ensures,
       eq-eqb _ _ c.if-byte-sizes.false,

@@ -24,7 +24,7 @@ returns-then-not-counts c =
     rw (
       told-yes c.length_holds.ensures c.if-not-length_holds.false,
       told-yes c.version_holds.ensures c.if-not-version_holds.false,
-      not-true c.args.counts c.if-not-counts.true,
+      c.if-not-counts.true,
     ) c.refused-then-not-counts.ensures
 
 pub returns-then-not-formula_holds : goal.returns-then-not-formula_holds
@@ -33,7 +33,7 @@ returns-then-not-formula_holds c =
     rw (
       told-yes c.length_holds.ensures c.if-not-length_holds.false,
       told-yes c.version_holds.ensures c.if-not-version_holds.false,
-      not-false c.args.counts c.if-not-counts.false,
+      c.if-not-counts.false,
       told_no c.formula_holds.ensures c.if-not-formula_holds.true,
     ) c.refused-then-not-formula_holds.ensures
 
@@ -43,6 +43,6 @@ returns c =
     rw (
       told-yes c.length_holds.ensures c.if-not-length_holds.false,
       told-yes c.version_holds.ensures c.if-not-version_holds.false,
-      not-false c.args.counts c.if-not-counts.false,
+      c.if-not-counts.false,
       told-yes c.formula_holds.ensures c.if-not-formula_holds.false,
     )

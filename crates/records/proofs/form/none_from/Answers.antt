@@ -2,11 +2,11 @@
 -- Assumes nothing.
 use borrow.Author.Rules.{rules}
 use Rattle.records.specs.Rows.{none_from}
-use Rattle.records.proofs.Masks.{none_from}
+use Rattle.records.proofs.Masks.{none_from as below_none}
 use Rattle.records.proofs.form.none_from.Goals as goal
 
 pub returns : goal.returns
 unfolding none_from
 returns c =
     rw c.below.ensures
-    (none_from 32 c.args.word c.args.n c.ranges.word.fits)
+    (below_none 32 c.args.word c.args.n c.ranges.word.fits)

@@ -16,14 +16,14 @@ pub returns-then-version-eq2 : goal.returns-then-version-eq2
 returns-then-version-eq2 c =
     let first = c.thread_at-first.ensures in
     record {
-  value = rw (← first.0, ne_eqb _ _ c.if-version-eq1.false, eq-eqb _ _ c.if-version-eq2.true) refl;
-  most = omega (arith, first.1);
+  value = rw (← first.value, ne_eqb _ _ c.if-version-eq1.false, eq-eqb _ _ c.if-version-eq2.true) refl;
+  most = omega (arith, first.most);
 }
 
 pub returns-else-version-eq2 : goal.returns-else-version-eq2
 returns-else-version-eq2 c =
     let first = c.thread_at-first.ensures in
     record {
-  value = rw (← first.0, ne_eqb _ _ c.if-version-eq1.false, ne_eqb _ _ c.if-version-eq2.false) refl;
-  most = omega (arith, first.1);
+  value = rw (← first.value, ne_eqb _ _ c.if-version-eq1.false, ne_eqb _ _ c.if-version-eq2.false) refl;
+  most = omega (arith, first.most);
 }

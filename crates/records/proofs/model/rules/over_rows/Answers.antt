@@ -18,7 +18,7 @@ pub returns-in_default : goal.returns-in_default
 returns-in_default c =
     let x = c.args in
     row-refused _ _ _ _ (row-columns x.rule (page x.s.now)) c.loop-number.invariant.1
-    c.read_row-read.ensures _ _ (omega (arith, ⟪c5.before.rows_of_lem.ensures⟫))
+    c.read_row-read.ensures _ _ (omega (arith, c.rows_of-rows.ensures))
     c.in_default.is c.pass.ensures
 
 pub overflow_add-number : goal.overflow_add-number
@@ -36,4 +36,4 @@ loop-number-preserved c =
     )
 
 pub returns : goal.returns
-returns c = sym (rows_end _ _ (omega (arith, ⟪c.before.before.rows_of_lem.ensures⟫)) c.loop-number.invariant.1)
+returns c = sym (rows_end _ _ (omega (arith, c.rows_of-rows.ensures)) c.loop-number.invariant.1)

@@ -1,0 +1,21 @@
+-- `checks::activity::count_holds` meets its contract, by the two tests. Assumes nothing.
+use mathlib.Core.Path.{ap}
+use borrow.Author.Tests.{lt-leb, le-leb}
+use Rattle.records.specs.declared.model.ActivityRow.{ActivityRow}
+use Rattle.records.specs.Rows.{activity_row_of}
+use borrow.Author.Rules.{rules}
+use Rattle.checks.proofs.activity.count_holds.Goals as goal
+
+pub returns-then-count-row : goal.returns-then-count-row
+unfolding activity_row_of
+returns-then-count-row c = simp (← ap (λ (y : ActivityRow). y.least_duration) c.activity_row-row.ensures, lt-leb _ _ c.if-count-row.true)
+
+pub returns : goal.returns
+unfolding activity_row_of
+returns c =
+    let row = c.activity_row-row.ensures in
+    simp (
+      ← ap (λ (y : ActivityRow). y.least_duration) row,
+      le-leb _ _ c.if-count-row.false,
+      ← ap (λ (y : ActivityRow). y.most_duration) row,
+    )

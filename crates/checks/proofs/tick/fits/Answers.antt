@@ -1,0 +1,15 @@
+-- `checks::tick::fits` meets its contract: the word counted is that of the activity and of the active ones before it.
+-- Assumes nothing.
+use Prim.Native.Nat.{ℕ}
+use mathlib.Core.Path.{ap, ◌∙◌}
+use lib.Dec.{leb}
+use borrow.Author.Rules.{rules}
+use Rattle.tables.specs.Loads.{load_from}
+use Rattle.checks.specs.Ticks.{fits_from}
+use Rattle.checks.proofs.tick.fits.Goals as goal
+
+pub returns : goal.returns
+unfolding fits_from
+returns c =
+    let x = c.args in
+    ap (λ (k : ℕ). leb k x.cores) (c.load.ensures ∙ ap (λ (w : ℕ). load_from x.widths w) c.with.ensures)

@@ -1,0 +1,17 @@
+-- `machine::order` meets its contract: each activity passed stands at its place.
+-- Assumes nothing.
+use Prim.Native.Nat.{◌≤◌, ◌-◌}
+use native.Mathlib.Omega.{arith}
+use mathlib.Core.Path.{◌≡◌, subst, ap}
+use borrow.Author.Rules.{rules}
+use Rattle.schedule.specs.Model.{model}
+use Rattle.records.specs.declared.model.Sizes.{Sizes}
+use Rattle.records.specs.Rows.{sizes_of}
+use Rattle.machine.proofs.OrderLaws.{ones_place, Placed, placed-none, placed_next, placed-all}
+use Rattle.machine.proofs.order.Given as goal
+
+abbrev pub invariant-loop-a : goal.invariant-loop-a
+invariant-loop-a l = (l.a ≤ l.n) × (l.n ≡ (model l.s).activities) × Placed (model l.s) l.a l.order
+
+abbrev pub decreases-loop-a : goal.decreases-loop-a
+decreases-loop-a l = l.n - l.a

@@ -1,0 +1,34 @@
+use native.Mathlib.Omega.{arith}
+use Rattle.bits.proofs.Apart.{lowest_lt, rest_less}
+use Rattle.machine.proofs.StretchLaws.{Ending, ending_start, ending_next, ending_end}
+use borrow.Author.Rules.{rules}
+use Rattle.machine.proofs.stretches.next_end.Goals as goal
+
+pub loop-rest-init : goal.loop-rest-init
+loop-rest-init c = ending_start _ _ _ _ (omega arith)
+
+pub offset_bounds-owed-a : goal.offset_bounds-owed-a
+offset_bounds-owed-a c =
+    let l = c.loop-rest in
+    omega (arith, lowest_lt l.rest _ l.invariant.fits c.loop-rest-test.true c.lowest-a.ensures)
+
+pub bounds-owed-a : goal.bounds-owed-a
+bounds-owed-a c =
+    let l = c.loop-rest in
+    omega (arith, lowest_lt l.rest _ l.invariant.fits c.loop-rest-test.true c.lowest-a.ensures)
+
+pub loop-rest-smaller : goal.loop-rest-smaller
+loop-rest-smaller c =
+    let l = c.loop-rest in
+    let less = rest_less l.rest _ l.invariant.fits c.loop-rest-test.true c.lowest-a.ensures in
+    omega (arith, c.without-rest.ensures, less)
+
+pub loop-rest-preserved : goal.loop-rest-preserved
+loop-rest-preserved c =
+    let l = c.loop-rest in
+    rw c.without-rest.ensures
+    (ending_next _ l.rest _ _ _ _ l.next _ _ l.invariant c.loop-rest-test.true c.lowest-a.ensures
+    (rw c.without-rest.ensures at c.without-rest.type_inv) c.sum.ensures c.smaller-next.ensures)
+
+pub returns : goal.returns
+returns c = ending_end _ _ _ _ _ _ c.loop-rest.invariant c.loop-rest-test.false

@@ -1,0 +1,22 @@
+-- `text::late::put_lines` meets its contract. The loop's invariant: the lines of the activities passed are appended. The measure
+-- is what is left of them.
+-- Assumes nothing.
+use Prim.Native.Nat.{ℕ, ◌-◌, ◌≤◌}
+use native.Mathlib.Omega.{arith}
+use mathlib.Core.Path.{◌≡◌, ap}
+use lib.ListN.{length}
+use borrow.Author.Rules.{rules}
+use Rattle.schedule.specs.Bounded.{chain}
+use Rattle.text.specs.Appended.{Appended}
+use Rattle.text.specs.Rows.{late_text}
+use Rattle.text.proofs.AppendLaws.{appended_none, appended_both}
+use Rattle.text.proofs.TextLaws.{chain-none, chain_most}
+use Rattle.text.proofs.LateLaws.{late_text_is, lines_next}
+use Rattle.text.proofs.late.put_lines.Given as goal
+
+abbrev pub invariant-loop-a : goal.invariant-loop-a
+invariant-loop-a l =
+    ((l.a ≤ l.count) × (length l.out ≡ length l.initial.out)) × Appended 0 (chain l.a (late_text l.rows)) l.initial.out l.at l.out
+
+abbrev pub decreases-loop-a : goal.decreases-loop-a
+decreases-loop-a l = l.count - l.a

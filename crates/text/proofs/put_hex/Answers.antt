@@ -1,0 +1,31 @@
+use Prim.Native.Nat.{◌+◌, ◌-◌, ◌≤◌}
+use native.Mathlib.Nat.{add-zero}
+use native.Mathlib.Omega.{arith}
+use borrow.Author.Rules.{rules}
+use mathlib.Core.Path.{◌≡◌}
+use lib.ListN.{length, length-set}
+use Rattle.text.specs.Appended.{Appended}
+use Rattle.text.proofs.DigitLaws.{first_digits, first-none}
+use Rattle.text.proofs.AppendLaws.{appended_none, hex_next, hex-done}
+use Rattle.text.proofs.put_hex.Goals as goal
+
+pub loop-i-init : goal.loop-i-init
+loop-i-init c = (omega arith, rw (first-none c.args.word, add-zero) (appended_none _ _))
+
+pub loop-i-preserved : goal.loop-i-preserved
+loop-i-preserved c =
+    let x = c.args in
+    let l = c.loop-i in (
+      simp length-set (omega arith),
+      hex_next x.word x.at l.i x.out.now l.out l.invariant.1 c.digit_from.ensures
+          c.loop-i-test.true,
+    )
+
+pub shape_of-out : goal.shape_of-out
+shape_of-out c = c.loop-i.invariant.0.1
+
+pub returns : goal.returns
+returns c =
+    let x = c.args in
+    let l = c.loop-i in
+    hex-done x.word x.at l.i x.out.now l.out l.invariant.1 (omega arith)

@@ -1,0 +1,18 @@
+-- `text::ticks` meets its contract: the plan's H, or none. Assumes nothing.
+use native.Mathlib.Omega.{arith}
+use mathlib.Core.Path.{ap}
+use Rattle.records.specs.Rows.{plan_sizes_of}
+use Rattle.records.specs.declared.plan.PlanSizes.{PlanSizes}
+use Rattle.text.specs.Appended.{ticks_of}
+use borrow.Author.Rules.{rules}
+use Rattle.text.proofs.ticks.Goals as goal
+
+pub returns-in-Accepted : goal.returns-in-Accepted
+unfolding ticks_of plan_sizes_of
+returns-in-Accepted c =
+    let horizon = ap (λ (x : PlanSizes). x.horizon) c.counts-sizes.ensures in
+    (simp c.in-Accepted.is horizon, omega (arith, c.struct_known-1.given))
+
+pub returns-in-Refused : goal.returns-in-Refused
+unfolding ticks_of
+returns-in-Refused c = (simp c.in-Refused.is, omega arith)
