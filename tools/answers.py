@@ -130,6 +130,8 @@ class Function:
         """The path of a fact in today's record of facts."""
         index, parent, (old, new) = self.places[place]
         step, rest = parts[0], parts[1:]
+        if place == "Start" and step not in ("args", "requires", "ranges", "type_inv", "well_formed", "lifetimes", "utf8"):
+            return None
         if place == "Start":
             if step in self.own and rest and rest[0].isdigit():
                 return ".".join(["c", step, self.own[step][int(rest[0])]] + rest[1:])
@@ -216,7 +218,7 @@ class Function:
                 return "⟪%s⟫" % m.group(0)
             return done
 
-        done = PATH.sub(turn, rest)
+        done = PATH.sub(turn, rest).replace(".type-inv", ".type_inv")
         done = re.sub(r"\bnot-(true|false) (?:\([^()]*\)|[^\s()]+) (c\.if-not-[^\s(),]*\.\1)(?![\w.-])", r"\2", done)
         steps = {p[2][1]: i for p, i in ((self.places[n], self.places[n][0]) for n in self.places) if p[2][1]}
         for m in re.finditer(r"let ([^\s:=]+) = c\.([^\s.]+)\.ensures in", done):

@@ -7,14 +7,11 @@ use native.Mathlib.Numerals.{add-one}
 use native.Mathlib.Omega.{arith}
 use mathlib.Core.Bool.{Bool, true, false, ◌&&◌, cond}
 use mathlib.Core.List.{List, [], ◌∷◌}
-use mathlib.Core.Logic.{⊎_elim}
 use mathlib.Core.Option.{Option, some, none}
 use mathlib.Core.Path.{◌≡◌, refl, sym, subst, ap, ap₂, ◌∙◌}
 use lib.Dec.{eqb}
 use lib.ListN.{length, get_or, replicate, get_or-eq_default}
 use borrow.Author.Tests.{le-leb, lt-leb}
-use denote.Enum.Declared.{tag_of}
-use types.Run.{OneOf}
 use Rattle.schedule.specs.Bounded.{bit, chain}
 use Rattle.schedule.specs.Fields.{bytes}
 use Rattle.schedule.specs.Rule.{Refusal, first_break}
@@ -35,7 +32,6 @@ use Rattle.tables.proofs.TableLaws.{by_table, by_beyond, length_by, table_by}
 use Rattle.machine.specs.Masks.{tick_word, Tabled, Keeps, Stepped}
 use Rattle.machine.specs.Ending.{Stopped}
 use Rattle.machine.specs.declared.Judged.{Judged}
-use Rattle.machine.specs.contracts.Judged.{the_type}
 use Rattle.machine.specs.Played.{grid_bytes, written_grid, played_ends, played_grid, Finished, Ended}
 use Rattle.machine.specs.Played.{Judgement, refused, not_played, judged_numbers, judged_by, played_judgement}
 use Rattle.machine.proofs.MaskLaws.{tick_is, keeps-first, keeps_next, stepped_fewer}
@@ -221,14 +217,14 @@ judged_refused : (x : Refusal) (o : Option Refusal) → refused x ≡ judged_by 
 judged_refused x none e = cc
 judged_refused x (some y) e = cc
 
--- a judgement that is no refusal: its case is the first of `Judged` or the third
+-- a judgement that is no refusal
 abbrev pub Unrefused : Judged → Type 0
-Unrefused judged = OneOf (0 ∷ 2 ∷ []) (tag_of the_type judged)
+Unrefused judged = (x : Declared) → judged ≡ Judged.Refused x → ⊥
 
 judged_none : (judged : Judged) (o : Option Refusal) → judged_numbers judged ≡ judged_by o → Unrefused judged → o ≡ none
 judged_none Judged.Succeeds none e u = refl
 judged_none Judged.Succeeds (some x) e u = cc
-judged_none (Judged.Refused x) o e u = absurd (⊎_elim (λ w. omega arith) (λ w. omega arith) u)
+judged_none (Judged.Refused x) o e u = absurd (u x refl)
 judged_none Judged.NotPlayed none e u = refl
 judged_none Judged.NotPlayed (some x) e u = cc
 

@@ -13,8 +13,8 @@ pub written-requires : goal.written-requires
 written-requires c =
     let ended = c.requires in
     all-ended _ _ _ (record { formed = ended.formed; end_ticks = ended.end_ticks })
-    (ended_success _ _ _ _ ended c.in_default.in_default-own.keys2)
+    (ended_success _ _ _ _ ended c.in_default.not-Refused)
 
 pub returns : goal.returns
 returns c =
-    succeeds _ _ _ (ended_success _ _ _ _ c.requires c.in_default.in_default-own.keys2) c.written.ensures
+    succeeds _ _ _ (ended_success _ _ _ _ c.requires c.in_default.not-Refused) c.written.ensures

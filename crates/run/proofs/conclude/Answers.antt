@@ -30,7 +30,7 @@ write_front-requires c =
 
 pub returns : goal.returns
 returns c =
-    let chosen : Bytes c.args.q.now = λ i _. (c.type_inv.s i).fits in
+    let chosen : Bytes c.args.q.now = λ i _. (c.type_inv.q i).fits in
     accepted-answers _ _ _ _ _ _ _ _ (chosen-release_lt _ chosen) (chosen-period_lt _ chosen) c.requires
-    (ended_success _ _ _ _ c.requires.ended c.in_default.in_default-own.keys2)
+    (ended_success _ _ _ _ c.requires.ended c.in_default.not-Refused)
     c.needed-length.ensures c.write_front.ensures c.figures.ensures

@@ -14,7 +14,7 @@ pub loop-number-init : goal.loop-number-init
 unfolding sizes_of
 loop-number-init c =
     let e = ap (λ (y : Sizes). y.activities) c.counts-sizes.ensures in
-    (omega arith, e, omega (arith, e, c.requires.0), filled_none _)
+    (omega arith, e, omega (arith, e, c.requires.s_bound), filled_none _)
 
 pub at-requires : goal.at-requires
 at-requires c = omega arith
@@ -26,7 +26,11 @@ pub after-requires : goal.after-requires
 after-requires c =
     let l = c.loop-number in
     let pre = c.requires in
-    (l.invariant.2, (λ b h. pre.1.1 b (omega (arith, h, l.invariant.1)), λ b h. pre.1.0 b (omega (arith, h, l.invariant.1))))
+    record {
+      n_bound = l.invariant.2;
+      by_index = λ b h. pre.table_of b (omega (arith, h, l.invariant.1));
+      by_index_2 = λ b h. pre.by_index b (omega (arith, h, l.invariant.1));
+    }
 
 pub overflow_cast-table : goal.overflow_cast-table
 overflow_cast-table c = omega arith

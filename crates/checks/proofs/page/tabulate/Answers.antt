@@ -16,24 +16,24 @@ finishes-finishes-requires c =
     let m = model c.args.s.now in
     let few = c.requires.activities.1 in
     let counts = count-table m (plan c.args.r.now) _ few c.counts-counts.ensures in
-    (few, (c.requires.ordered, (counts, by_table m _ _ few c.table-delays.ensures)))
+    record {
+      s_bound = few;
+      ordered = c.requires.ordered;
+      table_of = counts;
+      table_of_2 = by_table m _ _ few c.table-delays.ensures;
+    }
 
 pub froms-froms-requires : goal.froms-froms-requires
 unfolding column_of
 froms-froms-requires c =
     let m = model c.args.s.now in
     let few = c.requires.activities.1 in
-    let ends = by_table m _ _ few c.table-ends.ensures in (
-      few,
-      (
-        λ b l. omega (
-          arith,
-          ends b l,
-          end_lt c.args.r.now (λ i _. (c.type_inv.r i).fits) b,
-        ),
-        by_table m _ _ few c.table-delays.ensures,
-      ),
-    )
+    let ends = by_table m _ _ few c.table-ends.ensures in
+    record {
+      s_bound = few;
+      by_index = λ b l. omega (arith, ends b l, end_lt c.args.r.now (λ i _. (c.type_inv.r i).fits) b);
+      table_of = by_table m _ _ few c.table-delays.ensures;
+    }
 
 pub returns : goal.returns
 unfolding column_of

@@ -27,7 +27,7 @@ loop-a-preserved c =
     let l = c.loop-a in
     let row = c.activity_row-row.ensures in (
       omega arith,
-      c.put_activity_row.auto.0 ∙ l.invariant.1,
+      c.put_activity_row.auto.out ∙ l.invariant.1,
       pairs_next _ l.a _ _ _ _ _ l.out _ (omega arith) row.0 row.1 l.invariant.2
           c.put_activity_row.ensures,
     )

@@ -11,8 +11,8 @@ use borrow.Author.Rules.{rules}
 use Rattle.run.proofs.plan.write_activities.Given as goal
 
 abbrev pub invariant-loop-a : goal.invariant-loop-a
-invariant-loop-a l = (a ≤ l.m) × (length l.out ≡ length l.initial.out)
-    × (l.out ≡ put (plan_thread_row l.n) (pair_rows a (λ a. get_or l.starts a 0) (λ a. get_or l.ends a 0)) l.initial.out)
+invariant-loop-a l = (l.a ≤ l.m) × (length l.out ≡ length l.initial.out)
+    × (l.out ≡ put (plan_thread_row l.n) (pair_rows l.a (λ a. get_or l.starts a 0) (λ a. get_or l.ends a 0)) l.initial.out)
 
 abbrev pub decreases-loop-a : goal.decreases-loop-a
 decreases-loop-a l = l.m - l.a

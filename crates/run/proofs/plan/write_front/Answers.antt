@@ -23,7 +23,7 @@ unfolding sizes_of
 write_threads-requires c =
     let en = ap (λ (r : Sizes). r.threads) c.counts-sizes.ensures in
     let em = ap (λ (r : Sizes). r.activities) c.counts-sizes.ensures in
-    omega (arith, en, em, c.requires.room, c.put_head.auto.0)
+    omega (arith, en, em, c.requires.room, c.put_head.auto.out)
 
 pub write_activities-requires : goal.write_activities-requires
 unfolding sizes_of
@@ -32,7 +32,7 @@ write_activities-requires c =
     let en = ap (λ (r : Sizes). r.threads) c.counts-sizes.ensures in
     let em = ap (λ (r : Sizes). r.activities) c.counts-sizes.ensures in (
       omega (arith, em, c.requires.formed.activities.1),
-      omega (arith, en, em, c.requires.room, c.put_head.auto.0, c.write_threads.auto.1.1.0),
+      omega (arith, en, em, c.requires.room, c.put_head.auto.out, c.write_threads.auto.out),
       λ a l. (
         omega (
           arith,

@@ -26,7 +26,7 @@ loop-j-preserved c =
     let l = c.loop-j in
     let row = c.timing_at.ensures in (
       omega arith,
-      c.put_thread_row.auto.0 ∙ l.invariant.1,
+      c.put_thread_row.auto.out ∙ l.invariant.1,
       pairs_next _ l.j _ _ _ _ _ l.out _ (omega arith) (ap (λ (r : Timing). r.release) row)
           (ap (λ (r : Timing). r.period) row) l.invariant.2 c.put_thread_row.ensures,
     )
