@@ -7,12 +7,12 @@ ghost use Rattle.schedule.specs.Report.{report_answer, report_rows};
 ghost use Rattle.schedule.specs.Exchange.{pair_part, file_answer};
 ghost use Rattle.schedule.specs.Numbers.{refusal_numbers, numbers_of, verdict_numbers, run_numbers, wrap_numbers, part_numbers};
 ghost use Rattle.edit_rules.specs.Edits.{marking, clearing, edit_answer, edit_bytes};
-ghost use Rattle.edit_rules.specs.EditNumbers.{edited_numbers, told_numbers};
+ghost use Rattle.edit_rules.specs.EditNumbers.{edited_numbers, kept_numbers, told_numbers};
 ghost use Rattle.edit_rules.specs.Keeping.{asking, ask_answer, ask_state, keep_answer, keep_bytes};
 ghost use Rattle.capi.specs.Exported.{refusal_exported, verdict_exported, run_exported, part_exported, edit_exported, ask_exported};
 ghost use Rattle.capi.specs.States.{edit_of, editing_of, with_asked, edited_state};
 
-use edit_rules::{Asked, Edit, Edited, Editing, Step, Told};
+use edit_rules::{Asked, Edit, Edited, Editing, Kept, KeepStep, Step, Told};
 use numbers::{refusal_numbers, wrap_number};
 use schedule::{Chosen, Numbered, Part, Refusal, RunVerdict, Standing, Verdict, WrapRefusal};
 
@@ -126,6 +126,15 @@ fn edit_answer(v: Edited) -> GridAnswer
     }
 }
 
+fn keep_answer(v: Kept) -> GridAnswer
+    ensures { result ≡ edit_exported (kept_numbers v) }
+{
+    match v {
+        Kept::Done => edit_answer(Edited::Done),
+        Kept::Refused(why) => numbered(edits::unkept_numbers(why)),
+    }
+}
+
 fn ask_answer(v: Told) -> GridAnswer
     ensures { result ≡ ask_exported (told_numbers v) }
 {
@@ -226,6 +235,24 @@ pub extern "C" fn grid_choose(file: &[u8]) -> GridPart
     }
 }
 
+// An activity marked at a tick of the lent plan.
+#[unsafe(no_mangle)]
+pub extern "C" fn grid_mark(model: &[u8], plan: &mut [u8], activity: u32, tick: u32) -> GridAnswer
+    ensures { (result ≡ edit_exported (edit_answer model.now plan.old (marking activity tick)))
+        × (plan.new ≡ edit_bytes model.now plan.old (marking activity tick)) }
+{
+    edit_answer(edits::mark(model, plan, activity, tick))
+}
+
+// An activity cleared at a tick of the lent plan.
+#[unsafe(no_mangle)]
+pub extern "C" fn grid_clear(model: &[u8], plan: &mut [u8], activity: u32, tick: u32) -> GridAnswer
+    ensures { (result ≡ edit_exported (edit_answer model.now plan.old (clearing activity tick)))
+        × (plan.new ≡ edit_bytes model.now plan.old (clearing activity tick)) }
+{
+    edit_answer(edits::clear(model, plan, activity, tick))
+}
+
 // ---- the editing state
 
 // A state in which a mark or a clear is asked.
@@ -280,7 +307,7 @@ fn with_asked(given: GridEditing, asked: Asked) -> GridEditing
     }
 }
 
-// What a mark, a clear or a keep answered, with the state afterwards: where it is refused, the one that was given.
+// What a mark or a clear answered, with the state afterwards: where it is refused, the one that was given.
 fn edit_step(given: GridEditing, step: Step) -> GridStep
     ensures { (result.answer ≡ edit_exported (edited_numbers step.answer))
         × (result.state ≡ edited_state (edited_numbers step.answer) given) }
@@ -294,6 +321,24 @@ fn edit_step(given: GridEditing, step: Step) -> GridStep
     };
     GridStep {
         answer: edit_answer(said),
+        state: with_asked(given, Asked::Nothing),
+    }
+}
+
+// The same of a keep.
+fn keep_step(given: GridEditing, step: KeepStep) -> GridStep
+    ensures { (result.answer ≡ edit_exported (kept_numbers step.answer))
+        × (result.state ≡ edited_state (kept_numbers step.answer) given) }
+{
+    let said = step.answer;
+    let Kept::Done = said else {
+        return GridStep {
+            answer: keep_answer(said),
+            state: given,
+        };
+    };
+    GridStep {
+        answer: keep_answer(said),
         state: with_asked(given, Asked::Nothing),
     }
 }
@@ -335,10 +380,10 @@ pub extern "C" fn grid_edit_keep(state: GridEditing, model: &[u8], plan: &mut [u
         × (plan.new ≡ keep_bytes model.now plan.old (editing_of state).asked) }
 {
     let step = edits::keep(editing(state), model, plan);
-    edit_step(state, step)
+    keep_step(state, step)
 }
 
-// An activity marked at a tick of the lent plan.
+// An activity marked at a tick of the lent plan, with the state.
 #[unsafe(no_mangle)]
 pub extern "C" fn grid_edit_mark(
     state: GridEditing,
@@ -351,11 +396,11 @@ pub extern "C" fn grid_edit_mark(
         × (result.state ≡ edited_state (edit_answer model.now plan.old (marking activity tick)) state)
         × (plan.new ≡ edit_bytes model.now plan.old (marking activity tick)) }
 {
-    let step = edits::mark(editing(state), model, plan, activity, tick);
+    let step = edits::mark_with(editing(state), model, plan, activity, tick);
     edit_step(state, step)
 }
 
-// An activity cleared at a tick of the lent plan.
+// An activity cleared at a tick of the lent plan, with the state.
 #[unsafe(no_mangle)]
 pub extern "C" fn grid_edit_clear(
     state: GridEditing,
@@ -368,6 +413,6 @@ pub extern "C" fn grid_edit_clear(
         × (result.state ≡ edited_state (edit_answer model.now plan.old (clearing activity tick)) state)
         × (plan.new ≡ edit_bytes model.now plan.old (clearing activity tick)) }
 {
-    let step = edits::clear(editing(state), model, plan, activity, tick);
+    let step = edits::clear_with(editing(state), model, plan, activity, tick);
     edit_step(state, step)
 }

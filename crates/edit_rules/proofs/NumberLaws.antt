@@ -18,11 +18,13 @@ use Rattle.edit_rules.specs.declared.Edit.{Edit}
 use Rattle.edit_rules.specs.declared.EditRefusal.{EditRefusal}
 use Rattle.edit_rules.specs.declared.Reason.{Reason}
 use Rattle.edit_rules.specs.declared.Edited.{Edited}
+use Rattle.edit_rules.specs.declared.Unkept.{Unkept}
+use Rattle.edit_rules.specs.declared.Kept.{Kept}
 use Rattle.edit_rules.specs.declared.Asked.{Asked}
 use Rattle.edit_rules.specs.declared.Told.{Told}
 use Rattle.edit_rules.specs.Edits.{rule58, rule59, rule60, edit_rules, edit_checks, edit_answer, edit_bytes}
 use Rattle.edit_rules.specs.Keeping.{ask_answer, rule61, asked_rules, keep_checks, keep_answer}
-use Rattle.edit_rules.specs.EditNumbers.{edit_number, reason_numbers, edited_numbers, told_numbers}
+use Rattle.edit_rules.specs.EditNumbers.{edit_number, reason_numbers, edited_numbers, unkept_numbers, kept_numbers, told_numbers}
 use Rattle.edit_rules.specs.Statements.{EditsNever}
 use Rattle.edit_rules.specs.KeepStatements.{KeepsNever}
 use Rattle.edit_rules.proofs.AnswerLaws.{edit_checks_sound}
@@ -61,13 +63,8 @@ number x = x.number
 
 pub reason_injective : (x y : Reason) → reason_numbers x ≡ reason_numbers y → x ≡ y
 reason_injective (Reason.Record x) (Reason.Record y) e = ap Reason.Record (refusal_injective x y e)
-reason_injective (Reason.Record x) Reason.NothingAsked e = absurd (asked-apart x (ap number e))
 reason_injective (Reason.Record x) (Reason.Edit y) e = absurd (edit_apart x y (ap number e))
-reason_injective Reason.NothingAsked (Reason.Record y) e = absurd (asked-apart y (sym (ap number e)))
-reason_injective Reason.NothingAsked Reason.NothingAsked e = refl
-reason_injective Reason.NothingAsked (Reason.Edit y) e = absurd (edit_not_61 y (sym (ap number e)))
 reason_injective (Reason.Edit x) (Reason.Record y) e = absurd (edit_apart y x (sym (ap number e)))
-reason_injective (Reason.Edit x) Reason.NothingAsked e = absurd (edit_not_61 x (ap number e))
 reason_injective (Reason.Edit x) (Reason.Edit y) e = ap Reason.Edit (edit_injective x y (ap number e))
 
 pub edited_injective : (x y : Edited) → edited_numbers x ≡ edited_numbers y → x ≡ y
@@ -77,6 +74,25 @@ edited_injective (Edited.Refused x) Edited.Done e = let z : ◌≡◌ {A = ℕ} 
 edited_injective (Edited.Refused x) (Edited.Refused y) e =
     let same : reason_numbers x ≡ reason_numbers y = cc in
     ap Edited.Refused (reason_injective x y same)
+
+-- 61 is the number of no edit that is refused
+reason_not_61 : (why : Reason) → ¬ ((reason_numbers why).number ≡ 61)
+reason_not_61 (Reason.Record x) = asked-apart x
+reason_not_61 (Reason.Edit x) = edit_not_61 x
+
+unkept_injective : (x y : Unkept) → unkept_numbers x ≡ unkept_numbers y → x ≡ y
+unkept_injective Unkept.NothingAsked Unkept.NothingAsked e = refl
+unkept_injective Unkept.NothingAsked (Unkept.Edit y) e = absurd (reason_not_61 y (sym (ap number e)))
+unkept_injective (Unkept.Edit x) Unkept.NothingAsked e = absurd (reason_not_61 x (ap number e))
+unkept_injective (Unkept.Edit x) (Unkept.Edit y) e = ap Unkept.Edit (reason_injective x y e)
+
+pub kept_injective : (x y : Kept) → kept_numbers x ≡ kept_numbers y → x ≡ y
+kept_injective Kept.Done Kept.Done e = refl
+kept_injective Kept.Done (Kept.Refused y) e = let z : ◌≡◌ {A = ℕ} 0 1 = cc in absurd (omega arith)
+kept_injective (Kept.Refused x) Kept.Done e = let z : ◌≡◌ {A = ℕ} 0 1 = cc in absurd (omega arith)
+kept_injective (Kept.Refused x) (Kept.Refused y) e =
+    let same : unkept_numbers x ≡ unkept_numbers y = cc in
+    ap Kept.Refused (unkept_injective x y same)
 
 pub told_injective : (x y : Told) → told_numbers x ≡ told_numbers y → x ≡ y
 told_injective (Told.Verdict v) (Told.Verdict w) e =
@@ -97,8 +113,11 @@ kinds_never EditRefusal.Bit e = omega (arith, e)
 
 reasons_never : (why : Reason) → ¬ ((reason_numbers why).number ≡ retired)
 reasons_never (Reason.Record x) = never_24 x
-reasons_never Reason.NothingAsked = λ e. omega (arith, e)
 reasons_never (Reason.Edit why) = kinds_never why
+
+unkept_never : (why : Unkept) → ¬ ((unkept_numbers why).number ≡ retired)
+unkept_never Unkept.NothingAsked = λ e. omega (arith, e)
+unkept_never (Unkept.Edit why) = reasons_never why
 
 edit_other : (m : Model) (p : Plan) (e : Edit) → AllRules Other (edit_rules m p e)
 unfolding rule58 rule59 rule60
@@ -132,6 +151,7 @@ edits_never = record {
 pub keeps_never : KeepsNever
 unfolding ask_answer keep_answer
 keeps_never = record {
+  reasons = unkept_never;
   asking = λ s r e. answer-other (edit_checks s r e) _ (edit_checks_sound s r e) (checks_other s r e);
   telling = λ s r e v told.
       subst AnswerNotRetired ((verdict-told s r e v).0 told).1 (never_used.plain s (edit_bytes s r e));

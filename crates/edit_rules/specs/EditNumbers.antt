@@ -8,6 +8,8 @@ use Rattle.schedule.specs.Numbers.{refusal_numbers, verdict_numbers}
 use Rattle.edit_rules.specs.declared.EditRefusal.{EditRefusal}
 use Rattle.edit_rules.specs.declared.Reason.{Reason}
 use Rattle.edit_rules.specs.declared.Edited.{Edited}
+use Rattle.edit_rules.specs.declared.Unkept.{Unkept}
+use Rattle.edit_rules.specs.declared.Kept.{Kept}
 use Rattle.edit_rules.specs.declared.Told.{Told}
 
 abbrev pub edit_number : EditRefusal → ℕ
@@ -15,15 +17,23 @@ edit_number EditRefusal.Activity = 58
 edit_number EditRefusal.Tick = 59
 edit_number EditRefusal.Bit = 60
 
--- 58 to 61 name no place
+-- 58 to 60 name no place
 abbrev pub reason_numbers : Reason → Refusal
 reason_numbers (Reason.Record x) = refusal_numbers x
-reason_numbers Reason.NothingAsked = record { number = 61; A = 0; B = 0 }
 reason_numbers (Reason.Edit why) = record { number = edit_number why; A = 0; B = 0 }
 
 abbrev pub edited_numbers : Edited → Answer (Unit {0})
 edited_numbers Edited.Done = accepted tt
 edited_numbers (Edited.Refused why) = refused (reason_numbers why)
+
+-- 61 names no place either
+abbrev pub unkept_numbers : Unkept → Refusal
+unkept_numbers Unkept.NothingAsked = record { number = 61; A = 0; B = 0 }
+unkept_numbers (Unkept.Edit why) = reason_numbers why
+
+abbrev pub kept_numbers : Kept → Answer (Unit {0})
+kept_numbers Kept.Done = accepted tt
+kept_numbers (Kept.Refused why) = refused (unkept_numbers why)
 
 -- an ask is told a verdict, which may be a refusal of the plan as it would be, or is itself refused
 abbrev pub told_numbers : Told → Answer (Answer Figures)

@@ -14,12 +14,13 @@ use Rattle.edit_rules.specs.declared.Asked.{Asked}
 use Rattle.edit_rules.specs.declared.Editing.{Editing}
 use Rattle.edit_rules.specs.declared.EditRefusal.{EditRefusal}
 use Rattle.edit_rules.specs.declared.Reason.{Reason}
+use Rattle.edit_rules.specs.declared.Unkept.{Unkept}
 use Rattle.edit_rules.specs.Edits
 use Rattle.edit_rules.specs.Edits.{marking, clearing}
 use Rattle.edit_rules.specs.Keeping
 use Rattle.edit_rules.specs.Keeping.{nothing_asked, asking, Call, ask, keep, direct, Session, begun, left_by}
 use Rattle.edit_rules.specs.Keeping.{Entry, asks, keeps, edits, entries, kept_after, Lent, state_by, seen_by}
-use Rattle.edit_rules.specs.EditNumbers.{reason_numbers}
+use Rattle.edit_rules.specs.EditNumbers.{unkept_numbers}
 use Rattle.edit_rules.specs.EditCases.{word, done, no, model_r, plan_r, model_g, plan_g}
 
 -- ---- the form of the table
@@ -348,12 +349,12 @@ lent_cases =
 
 -- ---- the numbers
 
-abbrev reasons : List Reason
+abbrev reasons : List Unkept
 reasons =
-    Reason.Edit EditRefusal.Activity
-    ∷ Reason.Edit EditRefusal.Tick
-    ∷ Reason.Edit EditRefusal.Bit
-    ∷ Reason.NothingAsked
+    Unkept.Edit (Reason.Edit EditRefusal.Activity)
+    ∷ Unkept.Edit (Reason.Edit EditRefusal.Tick)
+    ∷ Unkept.Edit (Reason.Edit EditRefusal.Bit)
+    ∷ Unkept.NothingAsked
     ∷ []
 
 abbrev number : ℕ → Refusal
@@ -364,7 +365,7 @@ number n = record { number = n; A = 0; B = 0 }
 abbrev cases : List KeepCase
 cases = lists ++ verdicts ++ elsewhere
 
-pub keep_cases : AllRight cases × AllSeen lent_cases × (map reason_numbers reasons ≡ number 58 ∷ number 59 ∷ number 60 ∷ number 61 ∷ [])
+pub keep_cases : AllRight cases × AllSeen lent_cases × (map unkept_numbers reasons ≡ number 58 ∷ number 59 ∷ number 60 ∷ number 61 ∷ [])
 unfolding every Bounded.without_bit Edits.edited_word Edits.first_marked Edits.past_marked Edits.edited_plan
     Edits.rule58 Edits.rule59 Edits.rule60 Edits.edit_checks Edits.edit_answer Edits.edit_bytes
     Keeping.edit_state Keeping.ask_answer Keeping.ask_state Keeping.rule61 Keeping.keep_checks Keeping.keep_answer Keeping.keep_bytes

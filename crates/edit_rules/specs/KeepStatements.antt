@@ -7,11 +7,13 @@ use Rattle.schedule.specs.Fields.{Bytes}
 use Rattle.schedule.specs.Rule.{Refusal, AllHold, FirstBroken}
 use Rattle.schedule.specs.Answers.{Answer, accepted, refused, Figures, plain_verdict}
 use Rattle.schedule.specs.Streams.{view_refusal}
-use Rattle.schedule.specs.Retired.{AnswerNotRetired}
+use Rattle.schedule.specs.Retired.{NoCaseRetired, AnswerNotRetired}
 use Rattle.demands.specs.Rounds.{SameGiven}
 use Rattle.edit_rules.specs.declared.Edit.{Edit}
 use Rattle.edit_rules.specs.declared.Asked.{Asked}
 use Rattle.edit_rules.specs.declared.Editing.{Editing}
+use Rattle.edit_rules.specs.declared.Unkept.{Unkept}
+use Rattle.edit_rules.specs.EditNumbers.{unkept_numbers}
 use Rattle.edit_rules.specs.Edits.{edit_answer, edit_bytes, edited_by, answers_to}
 use Rattle.edit_rules.specs.Keeping.{nothing_asked, edit_state, ask_answer, ask_state, keep_checks, keep_answer, keep_bytes, keep_state}
 use Rattle.edit_rules.specs.Keeping.{Call, ask, direct, Session, begun, leaves, left_by, Entry, asks, keeps, edits, entries, kept_edits}
@@ -168,6 +170,7 @@ SessionsAlike = (s u : List ℕ) → SameGiven s u → (x : Session) (calls : Li
 
 -- "The number is never used again" (U11 of 02): no refused ask, no verdict that is told and no keep has it
 pub record KeepsNever : Type 0 where
+  pub reasons : NoCaseRetired (λ (why : Unkept). (unkept_numbers why).number)
   pub asking : (s r : List ℕ) (e : Edit) → AnswerNotRetired (ask_answer s r e)
   pub telling : (s r : List ℕ) (e : Edit) (v : Answer Figures) → ask_answer s r e ≡ accepted v → AnswerNotRetired v
   pub keeping : (s r : List ℕ) (asked : Asked) → AnswerNotRetired (keep_answer s r asked)

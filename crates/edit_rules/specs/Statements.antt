@@ -159,7 +159,7 @@ EditedAlike = (s u r : List ℕ) (e : Edit) → SameGiven s u
 
 -- ---- the numbers
 
--- "The number is never used again" (U11 of 02): none of 58 to 61, and no answer of an edit, is 24
+-- "The number is never used again" (U11 of 02): neither 58 to 60 nor any answer of an edit is 24
 pub record EditsNever : Type 0 where
   pub kinds : NoCaseRetired edit_number
   pub reasons : NoCaseRetired (λ (why : Reason). (reason_numbers why).number)

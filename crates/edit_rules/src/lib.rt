@@ -36,36 +36,55 @@ pub enum EditRefusal {
     Bit,
 }
 
-// Why a call is refused, in the order in which it is tried.
+// Why an edit is refused: by the form of a record, or by the edit itself.
 #[derive(Clone, Copy)]
 pub enum Reason {
-    // by the form of a record
     Record(Refusal),
-    // 61 "keeping with nothing asked, or with any kept edit since the asking"; it names no place
-    NothingAsked,
-    // by the edit itself
     Edit(EditRefusal),
 }
 
-// What a mark, a clear or a keep answers: "An unrefused call answers no figure."
+// What a mark or a clear answers: "An unrefused call answers no figure."
 #[derive(Clone, Copy)]
 pub enum Edited {
     Done,
     Refused(Reason),
 }
 
+// Why a keep is refused.
+#[derive(Clone, Copy)]
+pub enum Unkept {
+    // 61 "keeping with nothing asked, or with any kept edit since the asking"; it names no place
+    NothingAsked,
+    // as a direct edit is
+    Edit(Reason),
+}
+
+// What a keep answers: no figure either.
+#[derive(Clone, Copy)]
+pub enum Kept {
+    Done,
+    Refused(Unkept),
+}
+
 // What an ask answers: "the plain verdict that the plan would have", which is accepted or one of 21 to 29; or why the edit would
-// be refused, which is never 61.
+// be refused.
 #[derive(Clone, Copy)]
 pub enum Told {
     Verdict(Verdict),
     Refused(Reason),
 }
 
-// What a mark, a clear or a keep answers, and the state afterwards.
+// What a mark or a clear answers, and the state afterwards.
 #[derive(Clone, Copy)]
 pub struct Step {
     pub answer: Edited,
+    pub state: Editing,
+}
+
+// What a keep answers, and the state afterwards.
+#[derive(Clone, Copy)]
+pub struct KeepStep {
+    pub answer: Kept,
     pub state: Editing,
 }
 

@@ -19,9 +19,11 @@ use Rattle.edit_rules.specs.declared.Asked.{Asked}
 use Rattle.edit_rules.specs.declared.Editing.{Editing}
 use Rattle.edit_rules.specs.declared.Reason.{Reason}
 use Rattle.edit_rules.specs.declared.Edited.{Edited}
+use Rattle.edit_rules.specs.declared.Unkept.{Unkept}
+use Rattle.edit_rules.specs.declared.Kept.{Kept}
 use Rattle.edit_rules.specs.declared.Told.{Told}
 use Rattle.edit_rules.specs.Edits.{edited_plan, edit_answer, if_unrefused, edit_bytes}
-use Rattle.edit_rules.specs.EditNumbers.{reason_numbers, edited_numbers, told_numbers}
+use Rattle.edit_rules.specs.EditNumbers.{reason_numbers, edited_numbers, unkept_numbers, kept_numbers, told_numbers}
 use Rattle.edit_rules.specs.Keeping.{nothing_asked, asking, edit_state, ask_answer, ask_state, keep_answer, keep_bytes, keep_state}
 use Rattle.edit_rules.proofs.AnswerLaws.{where_unrefused, where_refused}
 use Rattle.edit_rules.proofs.KeepLaws.{refused_alike, verdict-told, keep_stops, keep_61, keeps_are_tried}
@@ -40,13 +42,6 @@ module _ (s r : List ℕ) (state : Editing) (e : Edit) (said : Edited) (told : e
   state_moves is = sym (where_unrefused (edit_answer s r e) tt _ _ (sym told ∙ ap edited_numbers is))
 
 -- ---- the scratch of an ask
-
--- a copy over bytes of its own length is the copy alone
-pub copied : (r old copy : List ℕ) → length old ≡ length r → copy ≡ take (length r) r ++ drop (length r) old → copy ≡ r
-copied r old copy same e =
-    e
-    ∙ ap₂ (λ (x y : List ℕ). x ++ y) (take-length r) (ap (λ (n : ℕ). drop n old) (sym same) ∙ drop-length old)
-    ∙ append-nil r
 
 -- the room for the longest plan has room for one that is no longer
 pub room : (r : List ℕ) → length r ≤ 16553 → length r ≡ length {A = ℕ} (take (length r) (replicate 16553 0))
@@ -93,22 +88,22 @@ module _ (s r : List ℕ) (state : Editing) (e : Edit) (said : Edited) (told : e
 
 -- with nothing asked: by the records, and behind them 61
 pub unkept_records : (s r : List ℕ) (pass : Pass) → pass_numbers pass ≡ view_refusal s r → (x : Refusal) → pass ≡ Pass.Refused x
-    → refused (refusal_numbers x) ≡ keep_answer s r Asked.Nothing
+    → refused (unkept_numbers (Unkept.Edit (Reason.Record x))) ≡ keep_answer s r Asked.Nothing
 unkept_records s r pass told x is =
     sym (keep_stops s r Asked.Nothing (refusal_numbers x) (sym told ∙ ap pass_numbers is))
 
 pub unkept_61 : (s r : List ℕ) (pass : Pass) → pass_numbers pass ≡ view_refusal s r → pass ≡ Pass.Holds
-    → refused (reason_numbers Reason.NothingAsked) ≡ keep_answer s r Asked.Nothing
+    → refused (unkept_numbers Unkept.NothingAsked) ≡ keep_answer s r Asked.Nothing
 unkept_61 s r pass told is = sym (keep_61 s r (sym told ∙ ap pass_numbers is))
 
-module _ (s r : List ℕ) (state : Editing) (why : Reason) (said : refused (reason_numbers why) ≡ keep_answer s r Asked.Nothing)
+module _ (s r : List ℕ) (state : Editing) (why : Unkept) (said : refused (unkept_numbers why) ≡ keep_answer s r Asked.Nothing)
     (is : state.asked ≡ Asked.Nothing) where
-  pub unkept_answer : edited_numbers (Edited.Refused why) ≡ keep_answer s r state.asked
+  pub unkept_answer : kept_numbers (Kept.Refused why) ≡ keep_answer s r state.asked
   unkept_answer = said ∙ ap (keep_answer s r) (sym is)
 
   pub unkept_leaves : (state ≡ keep_state s r state) × (r ≡ keep_bytes s r state.asked)
   unkept_leaves =
-      let same = (keeps_are_tried s r state).nothing_changed (reason_numbers why) (sym unkept_answer) in
+      let same = (keeps_are_tried s r state).nothing_changed (unkept_numbers why) (sym unkept_answer) in
       (sym same.1, sym same.0)
 
 -- with an edit asked: as the direct edit

@@ -9,12 +9,14 @@ ghost use Rattle.schedule.specs.Plan.{plan};
 ghost use Rattle.schedule.specs.Answers.{accepted, refused, answer, plain_verdict};
 ghost use Rattle.schedule.specs.Numbers.{numbers_of, verdict_numbers};
 ghost use Rattle.edit_rules.specs.Edits.{marking, clearing, edit_rules, edit_answer, edit_bytes};
-ghost use Rattle.edit_rules.specs.EditNumbers.{edit_number, reason_numbers, edited_numbers, told_numbers};
+ghost use Rattle.edit_rules.specs.EditNumbers.{edit_number, reason_numbers, edited_numbers, unkept_numbers, kept_numbers, told_numbers};
 ghost use Rattle.edit_rules.specs.Keeping.{nothing_asked, ask_answer, ask_state, edit_state, keep_answer, keep_bytes, keep_state};
 
-use edit_rules::{AskStep, Asked, Edit, EditRefusal, Edited, Editing, Reason, Step, Told};
+use edit_rules::{AskStep, Asked, Editing, Kept, KeepStep, Step, Told, Unkept};
 use records::Pass;
 use schedule::{Numbered, Verdict};
+
+pub use edit_rules::{Edit, EditRefusal, Edited, Reason};
 
 mod stroke;
 
@@ -36,16 +38,25 @@ pub fn reason_numbers(why: Reason) -> Numbered
 {
     match why {
         Reason::Record(x) => numbers::refusal_numbers(x),
-        Reason::NothingAsked => Numbered {
-            number: 61,
-            a: 0,
-            b: 0,
-        },
         Reason::Edit(x) => Numbered {
             number: edit_number(x),
             a: 0,
             b: 0,
         },
+    }
+}
+
+// The same of a keep that is refused.
+pub fn unkept_numbers(why: Unkept) -> Numbered
+    ensures { numbers_of result ≡ unkept_numbers why }
+{
+    match why {
+        Unkept::NothingAsked => Numbered {
+            number: 61,
+            a: 0,
+            b: 0,
+        },
+        Unkept::Edit(x) => reason_numbers(x),
     }
 }
 
@@ -101,6 +112,40 @@ fn apply(s: &[u8], r: &mut [u8], e: Edit) -> Edited
     Edited::Done
 }
 
+// ---- the calls without a state
+
+// Marks an activity at a tick.
+pub fn mark(model: &[u8], plan: &mut [u8], activity: u32, tick: u32) -> Edited
+    ensures { (edited_numbers result ≡ edit_answer model.now plan.old (marking activity tick))
+        × (plan.new ≡ edit_bytes model.now plan.old (marking activity tick)) }
+{
+    apply(
+        model,
+        plan,
+        Edit {
+            on: true,
+            activity,
+            tick,
+        },
+    )
+}
+
+// Clears an activity at a tick.
+pub fn clear(model: &[u8], plan: &mut [u8], activity: u32, tick: u32) -> Edited
+    ensures { (edited_numbers result ≡ edit_answer model.now plan.old (clearing activity tick))
+        × (plan.new ≡ edit_bytes model.now plan.old (clearing activity tick)) }
+{
+    apply(
+        model,
+        plan,
+        Edit {
+            on: false,
+            activity,
+            tick,
+        },
+    )
+}
+
 // ---- the plan as it would be
 
 // The bytes of the longest plan: 8 threads, 32 activities, 4096 ticks.
@@ -111,7 +156,7 @@ fn verdict_in(s: &[u8], r: &[u8], e: Edit, scratch: &mut [u8]) -> Verdict
     requires { (length scratch.old ≡ length r.now) × (edit_answer s.now r.now e ≡ accepted tt) }
     ensures { verdict_numbers result ≡ plain_verdict s.now (edit_bytes s.now r.now e) }
 {
-    bytes::copy(r, scratch);
+    scratch.copy_from_slice(r);
     stroke::make(scratch, e);
     checks::check_plain(s, scratch)
 }
@@ -157,17 +202,27 @@ fn apply_with(state: Editing, s: &[u8], r: &mut [u8], e: Edit) -> Step
 }
 
 // Why a keep with nothing asked is refused: by the form of a record, and behind it by 61.
-fn unkept(s: &[u8], r: &[u8]) -> Reason
-    ensures { refused (reason_numbers result) ≡ keep_answer s.now r.now Asked.Nothing }
+fn unkept(s: &[u8], r: &[u8]) -> Unkept
+    ensures { refused (unkept_numbers result) ≡ keep_answer s.now r.now Asked.Nothing }
 {
     let form = view::refusal(s, r);
     if let Pass::Refused(why) = form {
-        return Reason::Record(why);
+        return Unkept::Edit(Reason::Record(why));
     }
-    Reason::NothingAsked
+    Unkept::NothingAsked
 }
 
-// ---- the calls
+// What a direct edit answered, as a keep answers it.
+fn kept(said: Edited) -> Kept
+    ensures { kept_numbers result ≡ edited_numbers said }
+{
+    match said {
+        Edited::Done => Kept::Done,
+        Edited::Refused(why) => Kept::Refused(Unkept::Edit(why)),
+    }
+}
+
+// ---- the calls with a state
 
 // Asks for a mark or a clear: the plain verdict that the plan would have. Whatever was asked before is asked no more.
 pub fn ask(state: Editing, model: &[u8], plan: &[u8], e: Edit) -> AskStep
@@ -190,23 +245,27 @@ pub fn ask(state: Editing, model: &[u8], plan: &[u8], e: Edit) -> AskStep
 }
 
 // Keeps the edit that is asked.
-pub fn keep(state: Editing, model: &[u8], plan: &mut [u8]) -> Step
-    ensures { (edited_numbers result.answer ≡ keep_answer model.now plan.old state.asked)
+pub fn keep(state: Editing, model: &[u8], plan: &mut [u8]) -> KeepStep
+    ensures { (kept_numbers result.answer ≡ keep_answer model.now plan.old state.asked)
         × (result.state ≡ keep_state model.now plan.old state)
         × (plan.new ≡ keep_bytes model.now plan.old state.asked) }
 {
     let asked = state.asked;
     let Asked::Edit(e) = asked else {
-        return Step {
-            answer: Edited::Refused(unkept(model, plan)),
+        return KeepStep {
+            answer: Kept::Refused(unkept(model, plan)),
             state,
         };
     };
-    apply_with(state, model, plan, e)
+    let step = apply_with(state, model, plan, e);
+    KeepStep {
+        answer: kept(step.answer),
+        state: step.state,
+    }
 }
 
-// Marks an activity at a tick.
-pub fn mark(state: Editing, model: &[u8], plan: &mut [u8], activity: u32, tick: u32) -> Step
+// Marks an activity at a tick, a kept edit where it is not refused.
+pub fn mark_with(state: Editing, model: &[u8], plan: &mut [u8], activity: u32, tick: u32) -> Step
     ensures { (edited_numbers result.answer ≡ edit_answer model.now plan.old (marking activity tick))
         × (result.state ≡ edit_state model.now plan.old state (marking activity tick))
         × (plan.new ≡ edit_bytes model.now plan.old (marking activity tick)) }
@@ -223,8 +282,8 @@ pub fn mark(state: Editing, model: &[u8], plan: &mut [u8], activity: u32, tick: 
     )
 }
 
-// Clears an activity at a tick.
-pub fn clear(state: Editing, model: &[u8], plan: &mut [u8], activity: u32, tick: u32) -> Step
+// Clears an activity at a tick, a kept edit where it is not refused.
+pub fn clear_with(state: Editing, model: &[u8], plan: &mut [u8], activity: u32, tick: u32) -> Step
     ensures { (edited_numbers result.answer ≡ edit_answer model.now plan.old (clearing activity tick))
         × (result.state ≡ edit_state model.now plan.old state (clearing activity tick))
         × (plan.new ≡ edit_bytes model.now plan.old (clearing activity tick)) }

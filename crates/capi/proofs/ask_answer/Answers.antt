@@ -1,0 +1,11 @@
+-- `capi::ask_answer` meets its contract: the verdict that is told, or the refusal.
+-- Assumes nothing.
+use mathlib.Core.Path.{ap, ◌∙◌}
+use Rattle.capi.specs.Exported.{refusal_exported}
+use borrow.Author.Rules.{rules}
+use Rattle.capi.proofs.ask_answer.Goals as goal
+
+pub returns-in-Refused : goal.returns-in-Refused
+returns-in-Refused c =
+    rw c.in-Refused.is
+    (c.numbered.ensures ∙ ap refusal_exported c.reason_numbers.ensures)

@@ -1,0 +1,10 @@
+-- `capi::check_answer` meets its contract: the figures, or the refusal.
+-- Assumes nothing.
+use borrow.Author.Rules.{rules}
+use Rattle.capi.proofs.check_answer.Goals as goal
+
+pub returns-in-Accepted : goal.returns-in-Accepted
+returns-in-Accepted c = simp c.in-Accepted.is
+
+pub returns-in-Refused : goal.returns-in-Refused
+returns-in-Refused c = simp (c.in-Refused.is, c.refusal.ensures)

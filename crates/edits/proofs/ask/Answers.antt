@@ -1,0 +1,29 @@
+-- `edits::ask` meets its contract: the refusal of the edit, or the verdict on the plan with it. Assumes nothing.
+use mathlib.Core.Path.{◌∙◌}
+use Rattle.edits.proofs.StrokeLaws.{is_done}
+use Rattle.edits.proofs.StateLaws.{ask-refused, ask_erases, ask-told, ask-asks}
+use borrow.Author.Rules.{rules}
+use Rattle.edits.proofs.ask.Goals as goal
+
+pub returns-in-Refused : goal.returns-in-Refused
+returns-in-Refused c =
+    let x = c.args in
+    let told = c.tried-said.ensures in
+    let is = c.in-Refused.is in (
+      ask-refused x.model.now x.plan.now x.state x.e _ told _ is,
+      c.begin.ensures ∙ ask_erases x.model.now x.plan.now x.state x.e _ told _ is,
+    )
+
+pub verdict_after-requires : goal.verdict_after-requires
+verdict_after-requires c =
+    let x = c.args in
+    is_done x.model.now x.plan.now x.e _ c.tried-said.ensures c.in_default.is
+
+pub returns : goal.returns
+returns c =
+    let x = c.args in
+    let told = c.tried-said.ensures in
+    let is = c.in_default.is in (
+      ask-told x.model.now x.plan.now x.state x.e _ told is c.verdict_after.result c.verdict_after.ensures,
+      ask-asks x.model.now x.plan.now x.state x.e _ told is c.verdict_after.result c.verdict_after.ensures,
+    )
