@@ -5,7 +5,6 @@ use mathlib.Core.Path.{refl, ap}
 use Rattle.records.specs.Rows.{sizes_of}
 use Rattle.records.specs.declared.model.Sizes.{Sizes}
 use Rattle.machine.proofs.PlayLaws.{finished_stopped, played, unplayed}
-use borrow.Author.Rules.{rules}
 use Rattle.machine.proofs.play.Goals as goal
 
 pub returns-then-sizes-gt32 : goal.returns-then-sizes-gt32
