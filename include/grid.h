@@ -1,14 +1,16 @@
-/* The ten calls of the grid checker.
+/* The twelve calls of the grid checker.
  *
  * Every record, file and the buffer is passed as a pointer and the number of bytes, and the list `rows` as a pointer and the
  * number of its rows, each an int32_t. No pointer may be null, even where the number is 0. `rows` is aligned as int32_t is;
- * no other pointer has to be aligned. Only five calls write: grid_run only into `out`, grid_lateness only into `rows`, and
- * grid_edit_keep, grid_edit_mark and grid_edit_clear only into `plan`. What a call writes into overlaps none of its records;
- * two records that it only reads may overlap. With 16,553 bytes `out` is never too short, and with 32 rows `rows` never is.
+ * no other pointer has to be aligned. Only seven calls write: grid_run only into `out`, grid_lateness only into `rows`, and
+ * grid_mark, grid_clear, grid_edit_keep, grid_edit_mark and grid_edit_clear only into `plan`. What a call writes into overlaps
+ * none of its records; two records that it only reads may overlap. With 16,553 bytes `out` is never too short, and with 32
+ * rows `rows` never is.
  *
  * The calls keep nothing. What an editor has asked for is in a GridEditing, a value: the caller keeps it, hands it to each of
  * the four calls grid_edit_ and takes up the one that comes back with the answer. A call with an older copy of it is answered
- * as that copy says. Each plan that is edited needs a GridEditing of its own. Since the calls keep nothing, several threads
+ * as that copy says. Each plan that is edited needs a GridEditing of its own. grid_mark and grid_clear know of none, so an
+ * editor that asks makes its direct edits by grid_edit_mark and grid_edit_clear. Since the calls keep nothing, several threads
  * may make them at once, each with an `out`, `rows` or edited `plan` that no other one uses.
  */
 #ifndef GRID_H
@@ -60,6 +62,21 @@ GridAnswer grid_run(const uint8_t *model, size_t model_length,
 GridAnswer grid_lateness(const uint8_t *model, size_t model_length,
                          const uint8_t *choice, size_t choice_length,
                          int32_t *rows, size_t rows_length);
+
+/* Marks a tick of an activity in a plan: sets that activity's bit in the word of that tick. Its start then becomes its first
+ * marked tick and its end its last plus 1, whatever they were before, and no other byte of `plan` changes. `plan` does not
+ * overlap `model`. Refusals 1 to 7, 51 to 53 and 57 of the model, 8 to 12 and 14 of the plan, then 58 for an activity outside
+ * m, 59 for a tick outside H and 60 for a bit that is set already, these three with A and B 0, change no byte. None of 21 to
+ * 31 is tried. */
+GridAnswer grid_mark(const uint8_t *model, size_t model_length,
+                     uint8_t *plan, size_t plan_length,
+                     uint32_t activity, uint32_t tick);
+
+/* Clears a tick of an activity in a plan: as grid_mark, but the bit is cleared, 60 is for one that is clear already, and
+ * start and end both become 0 where no tick is marked any more. */
+GridAnswer grid_clear(const uint8_t *model, size_t model_length,
+                      uint8_t *plan, size_t plan_length,
+                      uint32_t activity, uint32_t tick);
 
 /* The state of an editor: which edit is asked. asked is 1 for a mark and 2 for a clear, of `activity` at `tick`; with any
  * other number nothing is asked. A refused ask and an unrefused keep, mark or clear write 0 into these three. All zeros is a

@@ -1,11 +1,11 @@
-/* The six calls of include/grid.h that are not an editor's, on model S and, but for wrapped records, on G, with their records
- * read from samples/. The four of an editor are in edits.c.
+/* The eight calls of include/grid.h that take no editing state, on model S, and the six of a model on G, with their records
+ * read from samples/. The four with a state are in edits.c.
  *
  * usage: calls FOLDER
  *
  * FOLDER has S.model, S.plan, S-early.plan, S.choice, G.model, G.plan and G.choice. Each answer, every byte of the lent
- * buffer, every row of the lent list and the flag of every record that stands are compared with the papers'; the first
- * difference ends the program with a message and status 1.
+ * buffer and of the lent plan, every row of the lent list and the flag of every record that stands are compared with the
+ * papers'; the first difference ends the program with a message and status 1.
  */
 #define PROGRAM "calls"
 #include "samples.h"
@@ -57,6 +57,139 @@ static void lateness(const char *what, const Record *model, const Record *choice
             exit(1);
         }
     }
+}
+
+/* A plan lent to be edited, and what it has to be after the next call. */
+typedef struct Lent {
+    const Record *model;
+    Record expected;
+    uint8_t space[AROUND + MOST + AROUND];
+} Lent;
+
+static Lent lent(const Record *model, const Record *plan)
+{
+    Lent made = {.model = model, .expected = *plan};
+
+    memset(made.space, FILLED, sizeof made.space);
+    memcpy(made.space + AROUND, plan->bytes, plan->length);
+    return made;
+}
+
+typedef GridAnswer Edit(const uint8_t *, size_t, uint8_t *, size_t, uint32_t, uint32_t);
+
+/* An edit of the lent plan. Afterwards it is the expected one, and no byte around it changed. */
+static void edit(const char *what, Edit *call, Lent *page, uint32_t activity, uint32_t tick, GridAnswer answer)
+{
+    const Record *model = page->model, *expected = &page->expected;
+    size_t at;
+
+    expect(what, call(model->bytes, model->length, page->space + AROUND, expected->length, activity, tick), answer);
+    for (at = 0; at < sizeof page->space; at++) {
+        int within = at >= AROUND && at < AROUND + expected->length;
+        if (page->space[at] != (within ? expected->bytes[at - AROUND] : FILLED)) {
+            fprintf(stderr, PROGRAM ": %s: byte %ld of the plan is %02x\n", what, (long)at - AROUND, page->space[at]);
+            exit(1);
+        }
+    }
+}
+
+static void mark(const char *what, Lent *page, uint32_t activity, uint32_t tick, GridAnswer answer)
+{
+    edit(what, grid_mark, page, activity, tick, answer);
+}
+
+static void clear(const char *what, Lent *page, uint32_t activity, uint32_t tick, GridAnswer answer)
+{
+    edit(what, grid_clear, page, activity, tick, answer);
+}
+
+/* A mark and a clear, refused alike. */
+static void both_refused(const char *what, Lent *page, uint32_t activity, uint32_t tick, uint32_t number, uint32_t a)
+{
+    mark(what, page, activity, tick, refused(number, a, 0));
+    clear(what, page, activity, tick, refused(number, a, 0));
+}
+
+/* Records with which no edit is made, whatever the activity and the tick. */
+static void turned_away(const char *what, const Record *model, const Record *plan, uint32_t number, uint32_t a)
+{
+    Lent page = lent(model, plan);
+
+    both_refused(what, &page, UINT32_MAX, UINT32_MAX, number, a);
+}
+
+/* Activity 2 of S's plan is moved from tick 5 to tick 4 and back; then tick 1 is taken from activity 0 for activity 1. */
+static void moved(const Record *model, const Record *plan, const Record *early)
+{
+    const GridAnswer made = accepted(0, 0, 0, 0);
+    Lent page = lent(model, plan);
+    uint8_t *bytes = page.expected.bytes;
+
+    bytes[26] = 4; /* the start of activity 2, and the word of tick 4 */
+    bytes[48] = 4;
+    mark("a mark in front", &page, 2, 4, made);
+    mark("the same mark", &page, 2, 4, refused(60, 0, 0));
+    page.expected = *early; /* the end of activity 2, and the word of tick 5 */
+    clear("the last tick cleared", &page, 2, 5, made);
+    clear("the same tick cleared", &page, 2, 5, refused(60, 0, 0));
+    bytes[26] = 0; /* start and end of activity 2, and the word of tick 4 */
+    bytes[28] = 0;
+    bytes[48] = 0;
+    clear("the only tick cleared", &page, 2, 4, made);
+    page.expected = *plan;
+    mark("the first mark", &page, 2, 5, made);
+    bytes[36] = 3; /* the word of tick 1 */
+    mark("a mark between", &page, 1, 1, made);
+    bytes[18] = 2; /* the start of activity 0, and the word of tick 1 */
+    bytes[36] = 2;
+    clear("the first tick cleared", &page, 0, 1, made);
+}
+
+static void outside(const Record *model, const Record *plan)
+{
+    Lent page = lent(model, plan);
+
+    both_refused("activity 3 of 3", &page, 3, 0, 58, 0);
+    both_refused("the greatest activity", &page, UINT32_MAX, 0, 58, 0);
+    both_refused("activity and tick outside", &page, 3, 8, 58, 0);
+    both_refused("tick 8 of 8", &page, 2, 8, 59, 0);
+    both_refused("tick 65536", &page, 0, 65536, 59, 0);
+    both_refused("the greatest tick", &page, 0, UINT32_MAX, 59, 0);
+}
+
+/* Rows that the words do not bear out: one is put right by an edit of its own activity alone. */
+static void wrong_rows(const Record *model, const Record *plan)
+{
+    Record other = *plan;
+    Lent page;
+
+    other.bytes[17] = 255; /* the start of activity 0, and that of activity 1 */
+    other.bytes[22] = 6;
+    page = lent(model, &other);
+    mark("a refused mark with a wrong start", &page, 0, 1, refused(60, 0, 0));
+    page.expected.bytes[17] = 0;
+    page.expected.bytes[20] = 8; /* the end of activity 0, and the word of tick 7 */
+    page.expected.bytes[60] = 1;
+    mark("a mark with two wrong starts", &page, 0, 7, accepted(0, 0, 0, 0));
+}
+
+static void edits(const Record *model, const Record *plan, const Record *early)
+{
+    static const Record empty;
+    Record other = *plan;
+
+    moved(model, plan, early);
+    outside(model, plan);
+    wrong_rows(model, plan);
+    other.bytes[60] = 8;
+    turned_away("bit 3 of 3 at tick 7", model, &other, 14, 7);
+    other.bytes[10] = 3;
+    turned_away("a release of 3", model, &other, 12, 0);
+    other.length -= 1;
+    turned_away("a plan with a byte too few", model, &other, 8, 0);
+    turned_away("the model for the plan to edit", model, model, 10, 0);
+    turned_away("no plan to edit", model, &empty, 8, 0);
+    turned_away("no model for an edit", &empty, plan, 1, 0);
 }
 
 /* A model wrapped as an issue of series 7. */
@@ -175,11 +308,23 @@ static void gangs(const char *folder)
     const Record plan = record(folder, "G.plan"), choice = record(folder, "G.choice");
     Record model = record(folder, "G.model");
     const uint32_t length = (uint32_t)plan.length;
+    Lent page = lent(&model, &plan);
 
     check("G's plan", &model, &plan, accepted(9, 12, 5, 0), accepted(9, 12, 5, 0));
     run("G's choice", &model, &choice, plan.length, accepted(9, 12, 5, length), plan.bytes, plan.length);
     lateness("G's report", &model, &choice, ROWS, accepted(9, 12, 5, length), rows, 3);
+    page.expected.bytes[26] = 0; /* the start of activity 1, and the word of tick 0 */
+    page.expected.bytes[36] = 7;
+    mark("four cores' worth on two", &page, 1, 0, accepted(0, 0, 0, 0));
+    check("three ticks of activity 1", &model, &page.expected, refused(22, 1, 0), refused(22, 1, 0));
+    page.expected.bytes[44] = 0; /* the word of tick 2 */
+    clear("a tick between cleared", &page, 1, 2, accepted(0, 0, 0, 0));
+    check("an edited plan", &model, &page.expected, refused(28, 0, 0), refused(28, 0, 0));
+    clear("the same tick of G cleared", &page, 1, 2, refused(60, 0, 0));
+    both_refused("activity 3 of G", &page, 3, 6, 58, 0);
+    both_refused("tick 6 of 6", &page, 2, 6, 59, 0);
     model.bytes[74] = 3; /* the width of activity 1 */
+    both_refused("width 3 of 2 cores for an edit", &page, 1, 2, 57, 1);
     check("width 3 of 2 cores", &model, &plan, refused(57, 1, 0), refused(57, 1, 0));
     run("width 3 of 2 cores for the run", &model, &choice, plan.length, refused(57, 1, 0), plan.bytes, 0);
     lateness("width 3 of 2 cores for the report", &model, &choice, ROWS, refused(57, 1, 0), rows, 0);
@@ -241,6 +386,7 @@ int main(int count, char **words)
     run("a chosen period of 5", &other, &choice, PLAN, refused(43, 2, 0), zeros, PLAN);
     lateness("a chosen period of 5 for the report", &other, &choice, ROWS, refused(43, 2, 0), late_rows, 3);
 
+    edits(&model, &plan, &early);
     exchange(&model);
     gangs(folder);
 

@@ -1,5 +1,5 @@
-/* The four calls of an editor in include/grid.h on models S, G and R, with their records read from samples/: marks and clears,
- * and asks and keeps.
+/* The four calls of include/grid.h with an editing state on models S, G and R, with their records read from samples/: marks
+ * and clears, and asks and keeps.
  *
  * usage: edits FOLDER
  *

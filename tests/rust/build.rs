@@ -8,8 +8,14 @@ use std::process::Command;
 
 fn main() {
     println!("cargo:rerun-if-changed=build.rs");
-    println!("cargo:rerun-if-changed=../../crates");
     println!("cargo:rerun-if-changed=../../crates.txt");
+    // All that a crate is made from, and not its out/, which rt writes.
+    for found in fs::read_dir("../../crates").unwrap() {
+        let crate_folder = found.unwrap().path();
+        for part in ["src", "specs", "proofs"].map(|part| crate_folder.join(part)).iter().filter(|part| part.exists()) {
+            println!("cargo:rerun-if-changed={}", part.display());
+        }
+    }
     println!("cargo:rerun-if-env-changed=GRID_ARCHIVE");
     let out = env::var("OUT_DIR").unwrap();
     let archive = env::var_os("GRID_ARCHIVE").map_or_else(make, PathBuf::from);
@@ -20,9 +26,8 @@ fn main() {
 }
 
 fn make() -> PathBuf {
-    let root = Path::new(&env::var("CARGO_MANIFEST_DIR").unwrap()).join("../..");
-    let status =
-        Command::new("rt").args(["staticlib", "capi"]).current_dir(&root).status().expect("rt could not be started");
-    assert!(status.success(), "rt staticlib capi failed");
-    root.join("target/staticlib/libcapi.a")
+    let crate_folder = Path::new(&env::var("CARGO_MANIFEST_DIR").unwrap()).join("../../crates/capi");
+    let status = Command::new("rt").arg("lib").current_dir(&crate_folder).status().expect("rt could not be started");
+    assert!(status.success(), "rt lib failed in crates/capi");
+    crate_folder.join("out/libcapi.a")
 }

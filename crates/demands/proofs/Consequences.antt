@@ -1,7 +1,7 @@
 -- What follows from the rules and is worth reading by itself: the lengths, the deadline, efe, the makespan, what it is to fail
 -- the strict check, and the page through the held view.
 -- Assumes nothing.
-use Prim.Native.Nat.{ℕ, ◌+◌, ◌<◌}
+use Prim.Native.Nat.{ℕ, ◌<◌}
 use native.Mathlib.Omega.{arith}
 use mathlib.Core.Bool.{Bool, true, false, cond}
 use mathlib.Core.List.{List, ◌++◌}
@@ -10,7 +10,6 @@ use mathlib.Core.Option.{Option, none}
 use mathlib.Core.Path.{◌≡◌, refl, ap, ◌∙◌}
 use lib.Dec.{T, ltb, ltb→lt}
 use lib.ListN.{length}
-use Rattle.schedule.specs.Bounded.{least}
 use Rattle.schedule.specs.Rule.{Refusal}
 use Rattle.schedule.specs.Model.{model, model_form}
 use Rattle.schedule.specs.Timing.{InTime}

@@ -6,7 +6,7 @@ ghost use Rattle.std.specs.Prelude.{◌≡◌, ◌≤◌, length, take};
 ghost use Rattle.schedule.specs.Streams.{input_limit};
 ghost use Rattle.schedule.specs.Lines.{gridlate};
 
-use input::Input;
+use input::{Input, Kept};
 
 // "at most 17,189 bytes of standard input"
 const LIMIT: usize = 17189;
@@ -52,18 +52,18 @@ fn answer(input: &[u8; LIMIT], read: usize) -> Lines
     listing(streams::front(all, read))
 }
 
-// Where a read fails nothing is printed.
-fn main() {
+// Where a read fails nothing is printed on standard output. What failed, and why, goes to standard error, and the status is 0.
+fn main(rt: HostRuntime) {
     let mut bytes = [0u8; LIMIT];
-    let read = input::fill(&mut bytes);
-    let Input::Bytes(n) = read else {
-        os::fail(b"gridlate: standard input");
+    let mut stdin = Kept::new(rt.stdin());
+    let Input::Bytes(n) = input::fill(&mut stdin, &mut bytes) else {
+        if let Some(e) = stdin.error() {
+            let _ = eprintln!(rt; "gridlate: standard input: {e}");
+        }
         return;
     };
     let lines = answer(&bytes, n);
-    let text = lines.bytes;
-    let length = lines.length;
-    if !io::write_all(libc::STDOUT_FILENO, &text[0..length]) {
-        os::fail(b"gridlate: standard output");
+    if let Err(e) = rt.write_all(&lines.bytes[..lines.length]) {
+        let _ = eprintln!(rt; "gridlate: standard output: {e}");
     }
 }

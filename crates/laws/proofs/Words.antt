@@ -5,7 +5,7 @@ use native.Mathlib.Nat.{pow-suc, add_comm, zero-mul, one-mul, mod-lt, mod-eq_of_
 use native.Mathlib.Numerals.{one-add}
 use native.Mathlib.Omega.{arith}
 use mathlib.Core.Bool.{Bool, true, false, cond}
-use mathlib.Core.Logic.{◌⊎◌, ⊎_elim}
+use mathlib.Core.Logic.{⊎_elim}
 use mathlib.Core.Path.{◌≡◌, refl, sym, subst, ap, ap₂, ◌∙◌}
 use lib.Dec.{T, eqb, eqb→eq}
 use lib.Pow.{pow_mono, high, low, mod-pow-add, field, mod-mod-pow}

@@ -1,11 +1,10 @@
 -- A rule with no columns, tried row by row, and rules tried one after the other.
 -- Assumes nothing.
 use Prim.Native.Nat.{ℕ, ◌+◌, ◌<◌}
-use mathlib.Core.Bool.{Bool, true, false, not, cond}
+use mathlib.Core.Bool.{Bool, true, false, cond}
 use mathlib.Core.List.{List, [], ◌∷◌, ◌++◌}
 use mathlib.Core.Option.{Option, some, none}
 use mathlib.Core.Path.{◌≡◌, refl, sym, subst, ap, ap₂, ◌∙◌}
-use borrow.Author.Tests.{not-false, not-true}
 use Rattle.schedule.specs.Bounded.{first}
 use Rattle.schedule.specs.Rule
 use Rattle.schedule.specs.Rule.{Rule, break, first_break}

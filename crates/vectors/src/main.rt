@@ -18,19 +18,20 @@
 // begin with nothing asked, what each call answers, an unrefused ask its verdict, and the plan afterwards.
 #![tactic(auto)]
 
-ghost use Rattle.std.specs.Prelude.{◌≡◌};
-ghost use Rattle.io.specs.Counts.{IsPrefixLen};
+ghost use Rattle.std.specs.Prelude.{◌≡◌, ◌≤◌, length};
 ghost use Rattle.schedule.specs.Numbers.{word_numbers};
 ghost use Rattle.schedule.specs.Streams.{view_word};
 
 use edit_rules::{Edit, Edited, Editing, Step, Told};
-use libc::STDOUT_FILENO;
+use input::Input;
 use numbers::{refusal_numbers, smaller, wrap_number};
 use records::Pass;
 use schedule::{Chosen, Figures, Numbered, Part, Refusal, Standing, Verdict, WordAt, WrapRefusal};
+use std::io::{BufWriter, Read, Write};
+use std::{fs, io};
 
 // The kinds of cases, in the order of the file.
-#[derive(Drop)]
+#[derive(Clone, Copy)]
 enum Kind {
     Check,
     Run,
@@ -43,140 +44,133 @@ enum Kind {
     Edits,
 }
 
+// Reads into the buffer and answers how many bytes came, which are fewer than it holds where the file ends.
+fn read_full<R: Read>(cases: &mut R, buf: &mut [u8]) -> usize
+    ensures { result ≤ length buf.new }
+{
+    match input::fill(cases, buf) {
+        Input::Bytes(n) => n,
+        Input::Failed(n) => n,
+    }
+}
+
 // The next number of the file, 0 past its end.
-fn next_number(fd: i32) -> u32 {
+fn next_number<R: Read>(cases: &mut R) -> u32 {
     let mut four = [0u8; 4];
-    io::read_full(fd, &mut four);
+    read_full(cases, &mut four);
     fields::be32(&four, 0)
 }
 
 // Reads the next record into the start of the buffer and answers its length; 0 where the buffer is too short.
-fn next_record(fd: i32, buf: &mut [u8]) -> usize
-    ensures { IsPrefixLen result buf.new }
+fn next_record<R: Read>(cases: &mut R, buf: &mut [u8]) -> usize
+    ensures { result ≤ length buf.new }
 {
-    let n = next_number(fd) as usize;
+    let n = next_number(cases) as usize;
     if buf.len() < n {
         return 0;
     }
-    io::read_full(fd, &mut buf[..n])
+    read_full(cases, &mut buf[..n])
 }
 
 // Prints the two lines of a model and a plan. They take at most 97 bytes.
-fn print_lines(model: &[u8], plan: &[u8]) {
+fn print_lines<W: Write>(out: &mut W, model: &[u8], plan: &[u8]) -> io::Result<()> {
     let mut lines = [0u8; 128];
     let n = text::check_lines(
         &mut lines,
         checks::check_plain(model, plan),
         checks::check_strict(model, plan),
     );
-    io::write_all(STDOUT_FILENO, &lines[..n]);
-}
-
-// Prints a case's number.
-fn print_number(number: u32) {
-    io::print_decimal(STDOUT_FILENO, number as u64);
-    io::write_all(STDOUT_FILENO, b"\n");
+    out.write_all(&lines[..n])
 }
 
 // Reads the next case of the checks and prints its lines.
-fn next_check(fd: i32) {
+fn next_check<R: Read, W: Write>(cases: &mut R, out: &mut W) -> io::Result<()> {
     let mut model = [0u8; 1024];
     let mut plan = [0u8; 17189];
-    let m = next_record(fd, &mut model);
-    let p = next_record(fd, &mut plan);
-    print_lines(&model[..m], &plan[..p]);
+    let m = next_record(cases, &mut model);
+    let p = next_record(cases, &mut plan);
+    print_lines(out, &model[..m], &plan[..p])
 }
 
 // Prints bytes behind their name.
-fn print_bytes(name: &[u8], bytes: &[u8]) {
-    io::write_all(STDOUT_FILENO, name);
-    let mut i = 0;
-    while i < bytes.len() {
-        io::write_all(STDOUT_FILENO, b" ");
-        io::print_decimal(STDOUT_FILENO, fields::byte(bytes, i) as u64);
-        i += 1;
+fn print_bytes<W: Write>(out: &mut W, name: &str, bytes: &[u8]) -> io::Result<()> {
+    write!(out, "{name}")?;
+    for byte in bytes {
+        write!(out, " {byte}")?;
     }
-    io::write_all(STDOUT_FILENO, b"\n");
+    writeln!(out)
 }
 
 // Prints the lines of a model and a choice, and the buffer that the run leaves. The lines take at most 56,264 bytes.
-fn print_run(model: &[u8], choice: &[u8], out: &mut [u8]) {
-    let answer = run::run(model, choice, out);
+fn print_run<W: Write>(
+    out: &mut W,
+    model: &[u8],
+    choice: &[u8],
+    plan: &mut [u8],
+) -> io::Result<()> {
+    let answer = run::run(model, choice, plan);
     let mut lines = [0u8; 60000];
-    let n = text::run_lines(&mut lines, answer, out);
-    io::write_all(STDOUT_FILENO, &lines[..n]);
-    print_bytes(b"buffer", out);
+    let n = text::run_lines(&mut lines, answer, plan);
+    out.write_all(&lines[..n])?;
+    print_bytes(out, "buffer", plan)
 }
 
 // Reads the next case of the run and prints its lines and its buffer.
-fn next_run(fd: i32) {
+fn next_run<R: Read, W: Write>(cases: &mut R, out: &mut W) -> io::Result<()> {
     let mut model = [0u8; 1024];
     let mut choice = [0u8; 256];
-    let mut out = [0u8; 17189];
-    let m = next_record(fd, &mut model);
-    let c = next_record(fd, &mut choice);
-    let n = next_record(fd, &mut out);
-    print_run(&model[..m], &choice[..c], &mut out[..n]);
+    let mut plan = [0u8; 17189];
+    let m = next_record(cases, &mut model);
+    let c = next_record(cases, &mut choice);
+    let n = next_record(cases, &mut plan);
+    print_run(out, &model[..m], &choice[..c], &mut plan[..n])
 }
 
 // The next tick of the file.
-fn next_tick(fd: i32) -> usize {
-    let high = next_number(fd) as usize;
-    let low = next_number(fd) as usize;
+fn next_tick<R: Read>(cases: &mut R) -> usize {
+    let high = next_number(cases) as usize;
+    let low = next_number(cases) as usize;
     high * 4294967296 + low
 }
 
 // Prints a refusal's number and place.
-fn print_refused(x: Refusal) {
-    print_numbers(refusal_numbers(x));
+fn print_refused<W: Write>(out: &mut W, x: Refusal) -> io::Result<()> {
+    print_numbers(out, refusal_numbers(x))
 }
 
-fn print_numbers(said: Numbered) {
-    io::write_all(STDOUT_FILENO, b"refused ");
-    io::print_decimal(STDOUT_FILENO, said.number as u64);
-    io::write_all(STDOUT_FILENO, b" ");
-    io::print_decimal(STDOUT_FILENO, said.a as u64);
-    io::write_all(STDOUT_FILENO, b" ");
-    io::print_decimal(STDOUT_FILENO, said.b as u64);
-    io::write_all(STDOUT_FILENO, b"\n");
+fn print_numbers<W: Write>(out: &mut W, said: Numbered) -> io::Result<()> {
+    writeln!(out, "refused {} {} {}", said.number, said.a, said.b)
 }
 
 // Prints what the making of a view answers.
-fn print_making(made: Pass) {
-    let Pass::Refused(why) = made else {
-        io::write_all(STDOUT_FILENO, b"made\n");
-        return;
-    };
-    print_refused(why);
+fn print_making<W: Write>(out: &mut W, made: Pass) -> io::Result<()> {
+    match made {
+        Pass::Holds => writeln!(out, "made"),
+        Pass::Refused(why) => print_refused(out, why),
+    }
 }
 
 // Prints what a view gives.
-fn print_word(found: WordAt) {
+fn print_word<W: Write>(out: &mut W, found: WordAt) -> io::Result<()> {
     match found {
-        WordAt::Word(word) => {
-            io::write_all(STDOUT_FILENO, b"word ");
-            io::print_decimal(STDOUT_FILENO, word as u64);
-            io::write_all(STDOUT_FILENO, b"\n");
-        }
-        WordAt::Past => {
-            io::write_all(STDOUT_FILENO, b"past\n");
-        }
+        WordAt::Word(word) => writeln!(out, "word {word}"),
+        WordAt::Past => writeln!(out, "past"),
     }
 }
 
 // Reads the next case of the view and prints what its making answers and what it gives.
-fn next_view(fd: i32) {
+fn next_view<R: Read, W: Write>(cases: &mut R, out: &mut W) -> io::Result<()> {
     let mut model = [0u8; 1024];
     let mut plan = [0u8; 17189];
-    let m = next_record(fd, &mut model);
-    let p = next_record(fd, &mut plan);
-    let t = next_tick(fd);
-    print_making(view::refusal(&model[..m], &plan[..p]));
-    print_word(view::word_at(&model[..m], &plan[..p], t));
+    let m = next_record(cases, &mut model);
+    let p = next_record(cases, &mut plan);
+    let t = next_tick(cases);
+    print_making(out, view::refusal(&model[..m], &plan[..p]))?;
+    print_word(out, view::word_at(&model[..m], &plan[..p], t))
 }
 
 // What a view gives at three ticks.
-#[derive(Drop)]
+#[derive(Clone, Copy)]
 struct Asked {
     first: WordAt,
     second: WordAt,
@@ -198,200 +192,169 @@ fn ask(model: &[u8], plan: &[u8], first: usize, second: usize, third: usize) -> 
 }
 
 // Prints what a view gives at three ticks.
-fn print_words(asked: Asked) {
-    let first = asked.first;
-    let second = asked.second;
-    let third = asked.third;
-    print_word(first);
-    print_word(second);
-    print_word(third);
+fn print_words<W: Write>(out: &mut W, asked: Asked) -> io::Result<()> {
+    print_word(out, asked.first)?;
+    print_word(out, asked.second)?;
+    print_word(out, asked.third)
 }
 
 // Reads the next case of a view that is held, and prints the refusal of its making, as the call for it tells, and what the view
 // gives at three ticks.
-fn next_held(fd: i32) {
+fn next_held<R: Read, W: Write>(cases: &mut R, out: &mut W) -> io::Result<()> {
     let mut model = [0u8; 1024];
     let mut plan = [0u8; 17189];
-    let m = next_record(fd, &mut model);
-    let p = next_record(fd, &mut plan);
-    let first = next_tick(fd);
-    let second = next_tick(fd);
-    let third = next_tick(fd);
-    print_making(view::refusal(&model[..m], &plan[..p]));
-    let asked = ask(&model[..m], &plan[..p], first, second, third);
-    print_words(asked);
+    let m = next_record(cases, &mut model);
+    let p = next_record(cases, &mut plan);
+    let first = next_tick(cases);
+    let second = next_tick(cases);
+    let third = next_tick(cases);
+    print_making(out, view::refusal(&model[..m], &plan[..p]))?;
+    print_words(out, ask(&model[..m], &plan[..p], first, second, third))
 }
 
 // Prints the two records of an input.
-fn print_split(input: &[u8]) {
-    print_bytes(b"first", streams::first_record(input));
-    print_bytes(b"second", streams::second_record(input));
+fn print_split<W: Write>(out: &mut W, input: &[u8]) -> io::Result<()> {
+    print_bytes(out, "first", streams::first_record(input))?;
+    print_bytes(out, "second", streams::second_record(input))
 }
 
 // Reads the next case of the splitter and prints its two records.
-fn next_split(fd: i32) {
+fn next_split<R: Read, W: Write>(cases: &mut R, out: &mut W) -> io::Result<()> {
     let mut input = [0u8; 256];
-    let n = next_record(fd, &mut input);
-    print_split(&input[..n]);
+    let n = next_record(cases, &mut input);
+    print_split(out, &input[..n])
 }
 
 // The rows that are lent, all different: 100, 101, 102, ..
 fn rows_before() -> [i32; 128] {
     let mut rows = [0i32; 128];
-    let mut a: usize = 0;
-    while a < 128 {
+    for a in 0..128usize {
         rows[a] = (100 + a) as i32;
-        a += 1;
     }
     rows
 }
 
-// Prints a signed number behind a space.
-fn print_signed(x: i32) {
-    io::write_all(STDOUT_FILENO, b" ");
-    if x < 0 {
-        io::write_all(STDOUT_FILENO, b"-");
-    }
-    io::print_decimal(STDOUT_FILENO, numbers::size(x) as u64);
-}
-
 // Prints the rows of a list behind their name.
-fn print_rows(rows: &[i32]) {
-    io::write_all(STDOUT_FILENO, b"rows");
-    let mut a = 0;
-    while a < rows.len() {
-        print_signed(rows[a]);
-        a += 1;
+fn print_rows<W: Write>(out: &mut W, rows: &[i32]) -> io::Result<()> {
+    write!(out, "rows")?;
+    for row in rows {
+        write!(out, " {row}")?;
     }
-    io::write_all(STDOUT_FILENO, b"\n");
+    writeln!(out)
 }
 
 // Prints the lines of a model and a choice, and the list that the report leaves. The lines take at most 366 bytes.
-fn print_report(model: &[u8], choice: &[u8], rows: &mut [i32]) {
+fn print_report<W: Write>(
+    out: &mut W,
+    model: &[u8],
+    choice: &[u8],
+    rows: &mut [i32],
+) -> io::Result<()> {
     let answer = report::lateness(model, choice, rows);
     let sizes = records::model::counts(model);
     let mut lines = [0u8; 512];
     let n = text::late_lines(&mut lines, answer, sizes.activities, rows);
-    io::write_all(STDOUT_FILENO, &lines[..n]);
-    print_rows(rows);
+    out.write_all(&lines[..n])?;
+    print_rows(out, rows)
 }
 
 // Reads the next case of the report and prints its lines and its list; at most 128 rows are lent.
-fn next_report(fd: i32) {
+fn next_report<R: Read, W: Write>(cases: &mut R, out: &mut W) -> io::Result<()> {
     let mut model = [0u8; 1024];
     let mut choice = [0u8; 256];
-    let m = next_record(fd, &mut model);
-    let c = next_record(fd, &mut choice);
-    let lent = smaller(next_number(fd), 128) as usize;
+    let m = next_record(cases, &mut model);
+    let c = next_record(cases, &mut choice);
+    let lent = smaller(next_number(cases), 128) as usize;
     let mut rows = rows_before();
-    print_report(&model[..m], &choice[..c], &mut rows[..lent]);
-}
-
-// Prints a number behind a space.
-fn print_size(x: usize) {
-    io::write_all(STDOUT_FILENO, b" ");
-    io::print_decimal(STDOUT_FILENO, x as u64);
+    print_report(out, &model[..m], &choice[..c], &mut rows[..lent])
 }
 
 // Prints a refusal of wrapped records at a record.
-fn print_wrap_refused(why: WrapRefusal, a: usize) {
-    io::write_all(STDOUT_FILENO, b"refused ");
-    io::print_decimal(STDOUT_FILENO, wrap_number(why) as u64);
-    print_size(a);
-    io::write_all(STDOUT_FILENO, b" 0\n");
+fn print_wrap_refused<W: Write>(out: &mut W, why: WrapRefusal, a: usize) -> io::Result<()> {
+    writeln!(out, "refused {} {a} 0", wrap_number(why))
 }
 
 // Prints which of two wrapped records stands.
-fn print_standing(found: Standing) {
+fn print_standing<W: Write>(out: &mut W, found: Standing) -> io::Result<()> {
     match found {
-        Standing::First => {
-            io::write_all(STDOUT_FILENO, b"stands first\n");
-        }
-        Standing::Second => {
-            io::write_all(STDOUT_FILENO, b"stands second\n");
-        }
-        Standing::Refused(why, a) => print_wrap_refused(why, a),
+        Standing::First => writeln!(out, "stands first"),
+        Standing::Second => writeln!(out, "stands second"),
+        Standing::Refused(why, a) => print_wrap_refused(out, why, a),
     }
 }
 
 // Prints the number of a record, its first byte and how many it has.
-fn print_part(x: Part) {
-    io::write_all(STDOUT_FILENO, b"chosen");
-    print_size(x.index);
-    print_size(x.offset);
-    print_size(x.length);
-    io::write_all(STDOUT_FILENO, b"\n");
+fn print_part<W: Write>(out: &mut W, x: Part) -> io::Result<()> {
+    writeln!(out, "chosen {} {} {}", x.index, x.offset, x.length)
 }
 
 // Prints which record of a file is chosen.
-fn print_chosen(found: Chosen) {
+fn print_chosen<W: Write>(out: &mut W, found: Chosen) -> io::Result<()> {
     match found {
-        Chosen::Record(x) => print_part(x),
-        Chosen::Refused(why, a) => print_wrap_refused(why, a),
+        Chosen::Record(x) => print_part(out, x),
+        Chosen::Refused(why, a) => print_wrap_refused(out, why, a),
     }
 }
 
 // Reads the next pair of wrapped records and prints which one stands and what is handed back.
-fn next_pair(fd: i32) {
+fn next_pair<R: Read, W: Write>(cases: &mut R, out: &mut W) -> io::Result<()> {
     let mut first = [0u8; 1024];
     let mut second = [0u8; 1024];
-    let f = next_record(fd, &mut first);
-    let s = next_record(fd, &mut second);
-    print_standing(exchange::which_stands(&first[..f], &second[..s]));
-    print_bytes(b"part", exchange::stands(&first[..f], &second[..s]));
+    let f = next_record(cases, &mut first);
+    let s = next_record(cases, &mut second);
+    print_standing(out, exchange::which_stands(&first[..f], &second[..s]))?;
+    print_bytes(out, "part", exchange::stands(&first[..f], &second[..s]))
 }
 
 // Reads the next file of wrapped records and prints which one is chosen and what is handed back.
-fn next_file(fd: i32) {
+fn next_file<R: Read, W: Write>(cases: &mut R, out: &mut W) -> io::Result<()> {
     let mut file = [0u8; 1024];
-    let n = next_record(fd, &mut file);
-    print_chosen(exchange::choose(&file[..n]));
-    print_bytes(b"part", exchange::chosen(&file[..n]));
+    let n = next_record(cases, &mut file);
+    print_chosen(out, exchange::choose(&file[..n]))?;
+    print_bytes(out, "part", exchange::chosen(&file[..n]))
 }
 
 // Prints what a mark, a clear or a keep answers.
-fn print_edited(answer: Edited) {
+fn print_edited<W: Write>(out: &mut W, answer: Edited) -> io::Result<()> {
     match answer {
-        Edited::Done => {
-            io::write_all(STDOUT_FILENO, b"done\n");
-        }
-        Edited::Refused(why) => print_numbers(edits::reason_numbers(why)),
+        Edited::Done => writeln!(out, "done"),
+        Edited::Refused(why) => print_numbers(out, edits::reason_numbers(why)),
     }
 }
 
 // Prints the three figures.
-fn print_figures(f: Figures) {
-    io::write_all(STDOUT_FILENO, b"accepted");
-    print_size(f.usage as usize);
-    print_size(f.capacity as usize);
-    print_size(f.makespan as usize);
-    io::write_all(STDOUT_FILENO, b"\n");
+fn print_figures<W: Write>(out: &mut W, f: Figures) -> io::Result<()> {
+    writeln!(out, "accepted {} {} {}", f.usage, f.capacity, f.makespan)
 }
 
 // Prints the verdict that an ask tells.
-fn print_verdict(verdict: Verdict) {
-    io::write_all(STDOUT_FILENO, b"verdict ");
+fn print_verdict<W: Write>(out: &mut W, verdict: Verdict) -> io::Result<()> {
+    write!(out, "verdict ")?;
     match verdict {
-        Verdict::Accepted(f) => print_figures(f),
-        Verdict::Refused(x) => print_refused(x),
+        Verdict::Accepted(f) => print_figures(out, f),
+        Verdict::Refused(x) => print_refused(out, x),
     }
 }
 
 // Prints what an ask answers.
-fn print_told(answer: Told) {
+fn print_told<W: Write>(out: &mut W, answer: Told) -> io::Result<()> {
     match answer {
-        Told::Verdict(verdict) => print_verdict(verdict),
-        Told::Refused(why) => print_numbers(edits::reason_numbers(why)),
+        Told::Verdict(verdict) => print_verdict(out, verdict),
+        Told::Refused(why) => print_numbers(out, edits::reason_numbers(why)),
     }
 }
 
 // Asks for an edit, prints what is told, and hands on the state.
-fn ask_for(state: Editing, model: &[u8], plan: &[u8], e: Edit) -> Editing {
+fn ask_for<W: Write>(
+    out: &mut W,
+    state: Editing,
+    model: &[u8],
+    plan: &[u8],
+    e: Edit,
+) -> io::Result<Editing> {
     let step = edits::ask(state, model, plan, e);
-    let said = step.answer;
-    print_told(said);
-    let next = step.state;
-    next
+    print_told(out, step.answer)?;
+    Ok(step.state)
 }
 
 // A mark for 1, a keep for 4, and a clear otherwise.
@@ -406,89 +369,100 @@ fn edited(state: Editing, model: &[u8], plan: &mut [u8], kind: u32, e: Edit) -> 
 }
 
 // Makes that edit, prints what it answers, and hands on the state.
-fn edit(state: Editing, model: &[u8], plan: &mut [u8], kind: u32, e: Edit) -> Editing {
+fn edit<W: Write>(
+    out: &mut W,
+    state: Editing,
+    model: &[u8],
+    plan: &mut [u8],
+    kind: u32,
+    e: Edit,
+) -> io::Result<Editing> {
     let step = edited(state, model, plan, kind, e);
-    let said = step.answer;
-    print_edited(said);
-    let next = step.state;
-    next
+    print_edited(out, step.answer)?;
+    Ok(step.state)
 }
 
 // Reads the next call of an editor, makes it, and hands on the state.
-fn next_call(fd: i32, state: Editing, model: &[u8], plan: &mut [u8]) -> Editing {
-    let kind = next_number(fd);
+fn next_call<R: Read, W: Write>(
+    cases: &mut R,
+    out: &mut W,
+    state: Editing,
+    model: &[u8],
+    plan: &mut [u8],
+) -> io::Result<Editing> {
+    let kind = next_number(cases);
     let e = Edit {
         on: kind == 1 || kind == 3,
-        activity: next_number(fd),
-        tick: next_number(fd),
+        activity: next_number(cases),
+        tick: next_number(cases),
     };
     if kind == 2 || kind == 3 {
-        return ask_for(state, model, plan, e);
+        return ask_for(out, state, model, plan, e);
     }
-    edit(state, model, plan, kind, e)
+    edit(out, state, model, plan, kind, e)
 }
 
 // Reads the next calls on a plan, as many as the file says, and prints what each answers, and the plan afterwards.
-fn next_calls(fd: i32, model: &[u8], plan: &mut [u8]) {
-    let count = next_number(fd);
+fn next_calls<R: Read, W: Write>(
+    cases: &mut R,
+    out: &mut W,
+    model: &[u8],
+    plan: &mut [u8],
+) -> io::Result<()> {
+    let count = next_number(cases);
     let mut state = edits::begin();
-    let mut k = 0;
-    while k < count {
-        state = next_call(fd, state, model, plan);
-        k += 1;
+    for _ in 0..count {
+        state = next_call(cases, out, state, model, plan)?;
     }
-    print_bytes(b"plan", plan);
+    print_bytes(out, "plan", plan)
 }
 
 // Reads the next case of edits and prints it.
-fn next_edits(fd: i32) {
+fn next_edits<R: Read, W: Write>(cases: &mut R, out: &mut W) -> io::Result<()> {
     let mut model = [0u8; 1024];
     let mut plan = [0u8; 17189];
-    let m = next_record(fd, &mut model);
-    let p = next_record(fd, &mut plan);
-    next_calls(fd, &model[..m], &mut plan[..p]);
+    let m = next_record(cases, &mut model);
+    let p = next_record(cases, &mut plan);
+    next_calls(cases, out, &model[..m], &mut plan[..p])
 }
 
 // Reads the next case of a kind and prints what its call answers.
-fn next(fd: i32, kind: Kind) {
+fn next<R: Read, W: Write>(cases: &mut R, out: &mut W, kind: Kind) -> io::Result<()> {
     match kind {
-        Kind::Check => next_check(fd),
-        Kind::Run => next_run(fd),
-        Kind::View => next_view(fd),
-        Kind::Held => next_held(fd),
-        Kind::Split => next_split(fd),
-        Kind::Report => next_report(fd),
-        Kind::Pair => next_pair(fd),
-        Kind::File => next_file(fd),
-        Kind::Edits => next_edits(fd),
+        Kind::Check => next_check(cases, out),
+        Kind::Run => next_run(cases, out),
+        Kind::View => next_view(cases, out),
+        Kind::Held => next_held(cases, out),
+        Kind::Split => next_split(cases, out),
+        Kind::Report => next_report(cases, out),
+        Kind::Pair => next_pair(cases, out),
+        Kind::File => next_file(cases, out),
+        Kind::Edits => next_edits(cases, out),
     }
 }
 
 // Reads how many cases of a kind there are, then each, and prints it behind its number.
-fn all(fd: i32, kind: Kind) {
-    let count = next_number(fd);
-    let mut number = 0;
-    while number < count {
-        print_number(number);
-        next(fd, kind);
-        number += 1;
+fn all<R: Read, W: Write>(cases: &mut R, out: &mut W, kind: Kind) -> io::Result<()> {
+    let count = next_number(cases);
+    for number in 0..count {
+        writeln!(out, "{number}")?;
+        next(cases, out, kind)?;
     }
+    Ok(())
 }
 
-fn main() {
-    let fd = os::open_read(b"cases");
-    if fd < 0 {
-        os::fail(b"cases");
-        return;
-    }
-    all(fd, Kind::Check);
-    all(fd, Kind::Run);
-    all(fd, Kind::View);
-    all(fd, Kind::Held);
-    all(fd, Kind::Split);
-    all(fd, Kind::Report);
-    all(fd, Kind::Pair);
-    all(fd, Kind::File);
-    all(fd, Kind::Edits);
-    libc::close(fd);
+fn main(rt: HostRuntime) -> io::Result<()> {
+    let file = fs::read(&rt, "cases")?;
+    let mut cases = file.as_slice();
+    let mut out = BufWriter::new(rt.alloc(), rt.stdout())?;
+    all(&mut cases, &mut out, Kind::Check)?;
+    all(&mut cases, &mut out, Kind::Run)?;
+    all(&mut cases, &mut out, Kind::View)?;
+    all(&mut cases, &mut out, Kind::Held)?;
+    all(&mut cases, &mut out, Kind::Split)?;
+    all(&mut cases, &mut out, Kind::Report)?;
+    all(&mut cases, &mut out, Kind::Pair)?;
+    all(&mut cases, &mut out, Kind::File)?;
+    all(&mut cases, &mut out, Kind::Edits)?;
+    out.flush()
 }

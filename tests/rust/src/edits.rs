@@ -18,6 +18,14 @@ pub struct Stroke {
     pub tick: u32,
 }
 
+pub fn mark(model: &[u8], plan: &mut [u8], activity: u32, tick: u32) -> Result<(), Refusal> {
+    edit(model, plan, Stroke { marks: true, activity, tick })
+}
+
+pub fn clear(model: &[u8], plan: &mut [u8], activity: u32, tick: u32) -> Result<(), Refusal> {
+    edit(model, plan, Stroke { marks: false, activity, tick })
+}
+
 /// 1 to 14 with 51 to 53 and 57, then 58 to 60; then the bit and the activity's row are written.
 pub fn edit(model: &[u8], plan: &mut [u8], stroke: Stroke) -> Result<(), Refusal> {
     reference::well_formed(model, plan)?;

@@ -24,6 +24,22 @@ extern "C" {
         rows: *mut i32,
         rows_length: usize,
     ) -> Answer;
+    fn grid_mark(
+        model: *const u8,
+        model_length: usize,
+        plan: *mut u8,
+        plan_length: usize,
+        activity: u32,
+        tick: u32,
+    ) -> Answer;
+    fn grid_clear(
+        model: *const u8,
+        model_length: usize,
+        plan: *mut u8,
+        plan_length: usize,
+        activity: u32,
+        tick: u32,
+    ) -> Answer;
     fn grid_edit_ask(
         state: Editing,
         model: *const u8,
@@ -77,6 +93,18 @@ pub fn lateness(model: &[u8], choice: &[u8], rows: &mut [i32]) -> Answer {
     // SAFETY: each pointer comes with the length of its slice, that of `rows` in rows, and `rows` is borrowed alone, so it
     // overlaps neither input.
     unsafe { grid_lateness(model.as_ptr(), model.len(), choice.as_ptr(), choice.len(), rows.as_mut_ptr(), rows.len()) }
+}
+
+pub fn mark(model: &[u8], plan: &mut [u8], activity: u32, tick: u32) -> Answer {
+    // SAFETY: each pointer comes with the length of its slice, and `plan` is borrowed alone, so it does not overlap the
+    // model.
+    unsafe { grid_mark(model.as_ptr(), model.len(), plan.as_mut_ptr(), plan.len(), activity, tick) }
+}
+
+pub fn clear(model: &[u8], plan: &mut [u8], activity: u32, tick: u32) -> Answer {
+    // SAFETY: each pointer comes with the length of its slice, and `plan` is borrowed alone, so it does not overlap the
+    // model.
+    unsafe { grid_clear(model.as_ptr(), model.len(), plan.as_mut_ptr(), plan.len(), activity, tick) }
 }
 
 /// Puts the state that a call handed back where it was taken from.

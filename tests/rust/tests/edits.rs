@@ -1,12 +1,12 @@
 //! Editing a grid by pencil, request U8 of 02: calls worked out by hand with both programs, the order of the refusals, what
 //! 02 says of every list, asked of the reference on many, and many calls beside readings that are nearly the paper's.
 //!
-//! A call that is worked out here names the readings under which its answer or the plan would be another. It is handed several
-//! editing states (U9), none of which plays a part in the edit.
+//! A call that is worked out here names the readings under which its answer or the plan would be another. It is made without an
+//! editing state, and with several (U9), none of which plays a part in the edit.
 
 use grid_tests::cases::{self, Case};
 use grid_tests::claims::edits::{of_list, Calls, List, EXPORTS, REFERENCE};
-use grid_tests::claims::keeping::of_state;
+use grid_tests::claims::keeping::{self, of_state};
 use grid_tests::edits::by_hand::{clear, mark, put, S, S_PLAN};
 use grid_tests::edits::readings::{self, Difference, Difference::*, DIFFERENCES};
 use grid_tests::edits::Stroke;
@@ -25,9 +25,22 @@ const STATES: [Editing; 4] = [
 ];
 
 /// A program's answers to these calls, made one after another on a plan between other bytes, and the plan afterwards; what
-/// 02 says of every list is so, and of the state after each call.
-fn answers(
-    program: Calls,
+/// 02 says of every list is so.
+fn answers(program: Calls, model: &[u8], plan: &[u8], strokes: &[Stroke]) -> (Vec<Answer>, Vec<u8>) {
+    let mut space = [&[0x5c; 8], plan, &[0x5c; 8]].concat();
+    let lent = 8..8 + plan.len();
+    let call = |&stroke: &Stroke| (stroke, program.make(model, &mut space[lent.clone()], stroke));
+    let calls: Vec<(Stroke, Answer)> = strokes.iter().map(call).collect();
+    assert!(space[..8] == [0x5c; 8] && space[lent.end..] == [0x5c; 8]);
+    let after = space[lent].to_vec();
+    assert_eq!(of_list(program, List { model, before: plan, calls: &calls, after: &after }), Ok(()));
+    (calls.into_iter().map(|(_, answer)| answer).collect(), after)
+}
+
+/// The same with the calls that take an editing state, beginning with this one; what 02 says of the state after each call is
+/// so too.
+fn with_state(
+    program: keeping::Calls,
     mut state: Editing,
     model: &[u8],
     plan: &[u8],
@@ -44,15 +57,15 @@ fn answers(
     let calls: Vec<(Stroke, Answer)> = strokes.iter().map(call).collect();
     assert!(space[..8] == [0x5c; 8] && space[lent.end..] == [0x5c; 8]);
     let after = space[lent].to_vec();
-    assert_eq!(of_list(program, List { model, before: plan, calls: &calls, after: &after }), Ok(()));
+    assert_eq!(of_list(program.stateless, List { model, before: plan, calls: &calls, after: &after }), Ok(()));
     (calls.into_iter().map(|(_, answer)| answer).collect(), after)
 }
 
 /// The answers that both programs must give to these calls from each state, and the plan that they must leave.
-fn both_answer(model: &[u8], plan: &[u8], strokes: &[Stroke], expected: &(Vec<Answer>, Vec<u8>)) {
-    for program in [REFERENCE, EXPORTS] {
+fn from_each_state(model: &[u8], plan: &[u8], strokes: &[Stroke], expected: &(Vec<Answer>, Vec<u8>)) {
+    for program in [keeping::REFERENCE, keeping::EXPORTS] {
         for state in STATES {
-            assert_eq!(answers(program, state, model, plan, strokes), *expected, "{strokes:?}, {state:?}");
+            assert_eq!(with_state(program, state, model, plan, strokes), *expected, "{strokes:?}, {state:?}");
         }
     }
 }
@@ -66,7 +79,10 @@ fn of_reading(model: &[u8], plan: &[u8], stroke: Stroke, reading: &[Difference])
 /// The answer that both programs must give to a call, the plan that they must leave, and the readings that would give or
 /// leave another.
 fn edit(model: &[u8], plan: &[u8], stroke: Stroke, answer: Answer, after: &[u8], told_apart: &[Difference]) {
-    both_answer(model, plan, &[stroke], &(vec![answer], after.to_vec()));
+    for program in [REFERENCE, EXPORTS] {
+        assert_eq!(answers(program, model, plan, &[stroke]), (vec![answer], after.to_vec()), "{stroke:?}");
+    }
+    from_each_state(model, plan, &[stroke], &(vec![answer], after.to_vec()));
     let paper = of_reading(model, plan, stroke, &[]);
     assert_eq!(paper, (answer, after.to_vec()));
     for &difference in told_apart {
@@ -427,7 +443,10 @@ fn plans_turned_away() {
 fn list(model: &[u8], plan: &[u8], calls: &[(Stroke, u32)], after: &[u8]) {
     let strokes: Vec<Stroke> = calls.iter().map(|call| call.0).collect();
     let expected: Vec<Answer> = calls.iter().map(|call| Answer::refused(call.1, 0, 0)).collect();
-    both_answer(model, plan, &strokes, &(expected, after.to_vec()));
+    for program in [REFERENCE, EXPORTS] {
+        assert_eq!(answers(program, model, plan, &strokes), (expected.clone(), after.to_vec()));
+    }
+    from_each_state(model, plan, &strokes, &(expected, after.to_vec()));
 }
 
 #[test]
@@ -513,10 +532,14 @@ fn listed() -> impl Iterator<Item = Case> {
 fn readings_beside_the_reference() {
     let mut told_apart = [0; DIFFERENCES.len()];
     for case in listed() {
-        let (mut plan, mut state) = (case.second.clone(), case.state);
+        let mut plan = case.second.clone();
+        let mut state = case.state;
         for &stroke in &case.strokes {
             let before = plan.clone();
-            let answer = REFERENCE.edit(&mut state, &case.model, &mut plan, stroke);
+            let answer = REFERENCE.make(&case.model, &mut plan, stroke);
+            let mut beside = before.clone();
+            let answer_beside = keeping::REFERENCE.edit(&mut state, &case.model, &mut beside, stroke);
+            assert_eq!((answer_beside, &beside), (answer, &plan), "{stroke:?}, {}", case.kind);
             let of_reading = |reading: &[Difference]| of_reading(&case.model, &before, stroke, reading);
             let paper = of_reading(&[]);
             assert_eq!(paper, (answer, plan.clone()), "{stroke:?}, {}", case.kind);
@@ -590,7 +613,7 @@ impl Reached {
                 self.refused_in_between += usize::from(any_made(earlier, &same_bit) && any_made(later, &same_bit));
                 self.refused(&plan, stroke, answer);
             }
-            REFERENCE.edit(&mut Editing::default(), &case.model, &mut plan, stroke);
+            REFERENCE.make(&case.model, &mut plan, stroke);
         }
     }
 
@@ -641,10 +664,13 @@ impl Reached {
 fn claims_of_the_reference() {
     let mut reached = Reached::default();
     for case in listed() {
-        let (answered, after) = answers(REFERENCE, case.state, &case.model, &case.second, &case.strokes);
+        let (answered, after) = answers(REFERENCE, &case.model, &case.second, &case.strokes);
+        let beside = |model: &[u8]| with_state(keeping::REFERENCE, case.state, model, &case.second, &case.strokes);
+        assert_eq!(beside(&case.model), (answered.clone(), after.clone()), "{}", case.kind);
         for other in case.alike() {
-            let alike = answers(REFERENCE, case.state, &other, &case.second, &case.strokes);
+            let alike = answers(REFERENCE, &other, &case.second, &case.strokes);
             assert_eq!(alike, (answered.clone(), after.clone()), "{}", case.kind);
+            assert_eq!(beside(&other), alike, "{}", case.kind);
         }
         let calls: Vec<(Stroke, Answer)> = case.strokes.iter().copied().zip(answered).collect();
         if let Some(page) = case.page.as_ref().filter(|_| [0, 58, 59, 60].contains(&calls[0].1.number)) {

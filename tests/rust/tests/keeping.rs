@@ -3,8 +3,7 @@
 //!
 //! A list that is worked out here names the readings under which an answer or the plan after a call would be another.
 
-use grid_tests::claims::edits::{EXPORTS, REFERENCE};
-use grid_tests::claims::keeping::of_turns;
+use grid_tests::claims::keeping::{of_turns, EXPORTS, REFERENCE};
 use grid_tests::edits::by_hand::{clear, mark, put, S, S_PLAN};
 use grid_tests::edits::Stroke;
 use grid_tests::keeping::lists::Elsewhere::{self, Page, Turned};

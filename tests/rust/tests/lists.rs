@@ -2,8 +2,7 @@
 //! lists beside readings that are nearly the paper's.
 
 use grid_tests::cases::{self, Case};
-use grid_tests::claims::edits::REFERENCE;
-use grid_tests::claims::keeping::{is_refused_ask, of_list, of_turns};
+use grid_tests::claims::keeping::{is_refused_ask, of_list, of_turns, REFERENCE};
 use grid_tests::edits::Stroke;
 use grid_tests::keeping::lists::{Lent, Made};
 use grid_tests::keeping::readings::{self, DIFFERENCES};

@@ -3,7 +3,6 @@
 use native.Mathlib.Omega.{arith}
 use mathlib.Core.Path.{sym}
 use lib.Pow.{pow_pos}
-use borrow.Author.Rules.{rules}
 use Rattle.laws.proofs.WordLaws.{below_all, below-low, shl_one}
 use Rattle.bits.proofs.below.Goals as goal
 

@@ -1,7 +1,6 @@
 -- `bits::has` meets its contract. The digit that the shift and the mask leave is the bit; a word has no bit from 32 on.
 -- Assumes nothing.
 use mathlib.Core.Path.{sym}
-use borrow.Author.Rules.{rules}
 use Rattle.laws.proofs.WordLaws.{bit_past, bit_test}
 use Rattle.bits.proofs.has.Goals as goal
 

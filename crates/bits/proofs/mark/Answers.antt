@@ -1,5 +1,4 @@
 -- `bits::mark` meets its contract, by the two cases of the answer. Assumes nothing.
-use borrow.Author.Rules.{rules}
 use Rattle.bits.proofs.mark.Goals as goal
 
 pub returns-then-yes : goal.returns-then-yes

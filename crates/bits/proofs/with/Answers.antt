@@ -1,7 +1,6 @@
 -- `bits::with` meets its contract. Below 32 the shifted one is 2 to the power b, and the word's | with it has the bit.
 -- Assumes nothing.
 use mathlib.Core.Path.{sym}
-use borrow.Author.Rules.{rules}
 use Rattle.laws.proofs.WordLaws.{shl_one, with_high, with_or}
 use Rattle.bits.proofs.with.Goals as goal
 

@@ -1,7 +1,6 @@
 -- `bits::without` meets its contract. Below 32 the word's & with all bits but b has the others.
 -- Assumes nothing.
 use mathlib.Core.Path.{sym}
-use borrow.Author.Rules.{rules}
 use Rattle.laws.proofs.WordLaws.{shl_one, without_and, without-high}
 use Rattle.bits.proofs.without.Goals as goal
 

@@ -1,10 +1,7 @@
-use Prim.Native.Nat.{◌-◌}
 use native.Mathlib.Omega.{arith}
 use mathlib.Core.Path.{sym}
-use lib.ListN.{length}
 use Rattle.records.proofs.Reading.{told_no, told-yes}
-use Rattle.exchange.proofs.AlongLaws.{Along, finish, first-refused, first_taken, inside, ends-inside, next_refused, next_taken}
-use borrow.Author.Rules.{rules}
+use Rattle.exchange.proofs.AlongLaws.{finish, first-refused, first_taken, inside, ends-inside, next_refused, next_taken}
 use Rattle.exchange.proofs.choose.Goals as goal
 
 pub bytes_of-requires : goal.bytes_of-requires

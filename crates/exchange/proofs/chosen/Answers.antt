@@ -3,7 +3,6 @@
 use mathlib.Core.Path.{refl, sym, ap, ◌∙◌}
 use Rattle.schedule.specs.Numbers.{chosen_numbers}
 use Rattle.laws.proofs.FileRecords.{chosen_part, chosen-nothing}
-use borrow.Author.Rules.{rules}
 use Rattle.exchange.proofs.chosen.Goals as goal
 
 pub bytes_of-requires : goal.bytes_of-requires

@@ -2,7 +2,6 @@
 use mathlib.Core.Path.{refl}
 use Rattle.records.proofs.Reading.{told_no, told-yes}
 use Rattle.exchange.proofs.RecordLaws.{compared_by, taken_above}
-use borrow.Author.Rules.{rules}
 use Rattle.exchange.proofs.compare.Goals as goal
 
 pub returns-then-not-wrapper_holds : goal.returns-then-not-wrapper_holds

@@ -1,7 +1,6 @@
 -- `exchange::copy_holds` meets its contract: 56's test, one field after the other. Assumes nothing.
 use borrow.Author.Tests.{eq-eqb, ne_eqb}
 use Rattle.schedule.specs.Exchange.{copy_rule}
-use borrow.Author.Rules.{rules}
 use Rattle.exchange.proofs.copy_holds.Goals as goal
 
 pub returns-then-series : goal.returns-then-series

@@ -1,6 +1,5 @@
 -- `exchange::model_holds` meets its contract: what the reading of the model answers. Assumes nothing.
 use Rattle.exchange.proofs.RecordLaws.{model-whole, model-refused}
-use borrow.Author.Rules.{rules}
 use Rattle.exchange.proofs.model_holds.Goals as goal
 
 pub returns-in-Model : goal.returns-in-Model

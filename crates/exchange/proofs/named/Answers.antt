@@ -1,7 +1,6 @@
 -- `exchange::named` meets its contract: in each case the slice that is handed on is the one that the answer names.
 -- Assumes nothing.
 use mathlib.Core.Path.{refl}
-use borrow.Author.Rules.{rules}
 use Rattle.exchange.proofs.named.Goals as goal
 
 pub returns-in-First : goal.returns-in-First

@@ -1,6 +1,5 @@
 -- `exchange::outranks` meets its contract: by the issue, and by the flag where issues are equal. Assumes nothing.
 use Rattle.exchange.proofs.RecordLaws.{equal_issues, other_issues}
-use borrow.Author.Rules.{rules}
 use Rattle.exchange.proofs.outranks.Goals as goal
 
 pub returns-then-issue : goal.returns-then-issue

@@ -1,6 +1,5 @@
 -- `exchange::record_at` meets its contract: what is left from a place on ends its first record there. Assumes nothing.
 use Rattle.exchange.proofs.RecordLaws.{left_from}
-use borrow.Author.Rules.{rules}
 use Rattle.exchange.proofs.record_at.Goals as goal
 
 pub returns : goal.returns

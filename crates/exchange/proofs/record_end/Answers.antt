@@ -1,7 +1,6 @@
 -- `exchange::record_end` meets its contract: at each way out the tests that led there. Assumes nothing.
 use borrow.Author.Tests.{le-leb, lt-leb}
 use Rattle.schedule.specs.Exchange.{record_end}
-use borrow.Author.Rules.{rules}
 use Rattle.exchange.proofs.record_end.Goals as goal
 
 pub returns-then-said-lt-WRAPPER : goal.returns-then-said-lt-WRAPPER

@@ -1,11 +1,7 @@
-use Prim.Native.Nat.{◌-◌, ◌≤◌}
 use native.Mathlib.Omega.{arith}
-use mathlib.Core.Path.{◌≡◌, refl, sym, ◌∙◌}
-use lib.ListN.{length, drop}
+use mathlib.Core.Path.{refl, sym, ◌∙◌}
 use borrow.Author.Tests.{eq-eqb, ne_eqb}
-use Rattle.schedule.specs.Exchange.{same}
 use Rattle.exchange.proofs.RecordLaws.{same_lengths, same_step, same_end}
-use borrow.Author.Rules.{rules}
 use Rattle.exchange.proofs.same.Goals as goal
 
 pub returns-then-n-y : goal.returns-then-n-y

@@ -1,12 +1,8 @@
 -- `exchange::same` meets its contract: what is left decides, byte by byte. Assumes nothing.
 use Prim.Native.Nat.{◌-◌, ◌≤◌}
-use native.Mathlib.Omega.{arith}
-use mathlib.Core.Path.{◌≡◌, refl, sym, ◌∙◌}
+use mathlib.Core.Path.{◌≡◌}
 use lib.ListN.{length, drop}
-use borrow.Author.Tests.{eq-eqb, ne_eqb}
 use Rattle.schedule.specs.Exchange.{same}
-use Rattle.exchange.proofs.RecordLaws.{same_lengths, same_step, same_end}
-use borrow.Author.Rules.{rules}
 use Rattle.exchange.proofs.same.Given as goal
 
 abbrev pub invariant-loop-i : goal.invariant-loop-i

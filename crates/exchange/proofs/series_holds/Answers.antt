@@ -1,6 +1,5 @@
 -- `exchange::series_holds` meets its contract: 55's test. Assumes nothing.
 use Rattle.schedule.specs.Exchange.{series_rule}
-use borrow.Author.Rules.{rules}
 use Rattle.exchange.proofs.series_holds.Goals as goal
 
 pub returns : goal.returns

@@ -1,6 +1,5 @@
 -- `exchange::stands` meets its contract: the slice of the record that stands, itself, or an empty part. Assumes nothing.
 use Rattle.exchange.proofs.AlongLaws.{named-bytes}
-use borrow.Author.Rules.{rules}
 use Rattle.exchange.proofs.stands.Goals as goal
 
 pub returns : goal.returns

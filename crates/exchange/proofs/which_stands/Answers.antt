@@ -4,7 +4,6 @@ use mathlib.Core.Path.{sym, ap, ◌∙◌}
 use Rattle.schedule.specs.Answers.{accepted}
 use Rattle.records.proofs.Reading.{told_no, told-yes}
 use Rattle.exchange.proofs.AlongLaws.{pair_unright, pair-refused, pair-taken}
-use borrow.Author.Rules.{rules}
 use Rattle.exchange.proofs.which_stands.Goals as goal
 
 pub returns-then-not-wrapper_holds : goal.returns-then-not-wrapper_holds

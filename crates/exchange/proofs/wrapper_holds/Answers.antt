@@ -3,7 +3,6 @@
 use borrow.Author.Tests.{eq-eqb, ne_eqb, le-leb, lt-leb}
 use Rattle.schedule.specs.Exchange.{wrapper_rule}
 use Rattle.exchange.proofs.RecordLaws.{right_by}
-use borrow.Author.Rules.{rules}
 use Rattle.exchange.proofs.wrapper_holds.Goals as goal
 
 pub returns-then-w-lt-WRAPPER : goal.returns-then-w-lt-WRAPPER

@@ -4,7 +4,6 @@ use native.Mathlib.Omega.{arith}
 use mathlib.Core.Path.{◌∙◌}
 use Rattle.laws.proofs.FieldLaws.{field_lt}
 use Rattle.fields.proofs.ReadLaws.{field-two}
-use borrow.Author.Rules.{rules}
 use Rattle.fields.proofs.be16.Goals as goal
 
 pub overflow_cast-result : goal.overflow_cast-result

@@ -1,7 +1,6 @@
 -- `fields::be32` meets its contract. The four bytes read at once are the field.
 -- Assumes nothing.
 use mathlib.Core.Path.{◌∙◌}
-use borrow.Author.Rules.{rules}
 use Rattle.fields.proofs.ReadLaws.{field-four}
 use Rattle.fields.proofs.be32.Goals as goal
 

@@ -1,6 +1,5 @@
 -- `fields::byte` meets its contract. A field of one byte is the byte.
 -- Assumes nothing.
-use borrow.Author.Rules.{rules}
 use native.Mathlib.Omega.{arith}
 use Rattle.fields.proofs.ReadLaws.{field_next, field-none}
 use Rattle.fields.proofs.byte.Goals as goal

@@ -1,7 +1,6 @@
 -- `fields::byte_after` meets its contract. What is past the end reads as 0.
 -- Assumes nothing.
 use native.Mathlib.Omega.{arith}
-use borrow.Author.Rules.{rules}
 use Rattle.fields.proofs.ReadLaws.{get_d_past}
 use Rattle.fields.proofs.byte_after.Goals as goal
 

@@ -1,10 +1,6 @@
-use Prim.Native.Nat.{◌≤◌}
 use native.Mathlib.Omega.{arith}
-use borrow.Author.Rules.{rules}
-use mathlib.Core.Path.{◌≡◌, refl, ◌∙◌}
-use lib.ListN.{length, length-set}
-use Rattle.schedule.specs.Fields.{bytes}
-use Rattle.fields.specs.Put.{put}
+use mathlib.Core.Path.{refl, ◌∙◌}
+use lib.ListN.{length-set}
 use Rattle.fields.proofs.PutLaws.{put-end, put_step}
 use Rattle.fields.proofs.fill.Goals as goal
 

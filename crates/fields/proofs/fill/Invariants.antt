@@ -2,13 +2,10 @@
 -- whole makes of what stood. The measure is the bytes left.
 -- Assumes nothing.
 use Prim.Native.Nat.{◌≤◌}
-use native.Mathlib.Omega.{arith}
-use borrow.Author.Rules.{rules}
-use mathlib.Core.Path.{◌≡◌, refl, ◌∙◌}
-use lib.ListN.{length, length-set}
+use mathlib.Core.Path.{◌≡◌}
+use lib.ListN.{length}
 use Rattle.schedule.specs.Fields.{bytes}
 use Rattle.fields.specs.Put.{put}
-use Rattle.fields.proofs.PutLaws.{put-end, put_step}
 use Rattle.fields.proofs.fill.Given as goal
 
 abbrev pub invariant-loop-j : goal.invariant-loop-j

@@ -1,12 +1,9 @@
 -- `fields::gather` meets its contract. The invariant: v is the field of the j bytes read so far. The measure
 -- is what is left of k.
 -- Assumes nothing.
-use borrow.Author.Rules.{rules}
 use Prim.Native.Nat.{◌-◌, ◌≤◌}
-use native.Mathlib.Omega.{arith}
-use mathlib.Core.Path.{◌≡◌, sym, ap, ◌∙◌}
+use mathlib.Core.Path.{◌≡◌}
 use Rattle.schedule.specs.Fields.{field}
-use Rattle.fields.proofs.ReadLaws.{field-none, field_next, field-short}
 use Rattle.fields.proofs.gather.Given as goal
 
 abbrev pub invariant-loop-j : goal.invariant-loop-j

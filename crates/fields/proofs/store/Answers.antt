@@ -2,7 +2,6 @@
 -- Assumes nothing.
 use native.Mathlib.Omega.{arith}
 use mathlib.Core.Path.{sym}
-use borrow.Author.Rules.{rules}
 use Rattle.schedule.specs.Fields.{bytes}
 use Rattle.laws.proofs.FieldLaws.{length-bytes}
 use Rattle.fields.proofs.PutLaws.{put_out}

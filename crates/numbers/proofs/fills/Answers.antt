@@ -3,7 +3,6 @@
 use mathlib.Core.Path.{ap}
 use lib.Dec.{eqb}
 use Rattle.schedule.specs.Rule.{Refusal}
-use borrow.Author.Rules.{rules}
 use Rattle.numbers.proofs.fills.Goals as goal
 
 pub returns-in-Refused : goal.returns-in-Refused

@@ -1,6 +1,5 @@
 -- `numbers::refusal_numbers` meets its contract: each class's number, and the place.
 -- Assumes nothing.
-use borrow.Author.Rules.{rules}
 use Rattle.numbers.proofs.refusal_numbers.Goals as goal
 
 pub returns-in-Form : goal.returns-in-Form

@@ -1,6 +1,5 @@
 -- `streams::cut` meets its contract: at each `return` the tests that led there say which way `splits` goes.
 -- Assumes nothing.
-use borrow.Author.Rules.{rules}
 use borrow.Author.Tests.{le-leb, lt-leb}
 use Rattle.schedule.specs.Streams.{splits}
 use Rattle.streams.specs.Cut

@@ -1,7 +1,6 @@
 -- `streams::first_record` meets its contract: the part before the cut is the first record, and begins where the input does.
 -- Assumes nothing.
 use mathlib.Core.Path.{refl}
-use borrow.Author.Rules.{rules}
 use native.Mathlib.Omega.{arith}
 use native.Mathlib.Numerals.{unary_clauses}
 use Rattle.streams.proofs.CutLaws.{cut_le, take-cut}

@@ -1,6 +1,5 @@
 -- `streams::front` meets its contract: no more bytes than there are. Assumes nothing.
 use mathlib.Core.Path.{refl}
-use borrow.Author.Rules.{rules}
 use native.Mathlib.Numerals.{unary_clauses}
 use Rattle.streams.proofs.CutLaws.{take-least}
 use Rattle.streams.proofs.front.Goals as goal

@@ -2,7 +2,6 @@
 -- Assumes nothing.
 use Prim.Native.Nat.{ℕ, ◌+◌}
 use mathlib.Core.Path.{ap, ◌∙◌}
-use borrow.Author.Rules.{rules}
 use native.Mathlib.Omega.{arith}
 use Rattle.streams.proofs.CutLaws.{cut_le, drop-cut, cut-length}
 use Rattle.streams.proofs.second_record.Goals as goal

@@ -1,7 +1,6 @@
 -- `text::check_lines` meets its contract: the two lines are printed where they fit.
 -- Assumes nothing.
 use native.Mathlib.Omega.{arith}
-use borrow.Author.Rules.{rules}
 use Rattle.schedule.specs.Numbers.{verdict_numbers}
 use Rattle.text.specs.Said.{plain_name, strict_name, line}
 use Rattle.text.proofs.AppendLaws.{printed-whole, printed-nothing}

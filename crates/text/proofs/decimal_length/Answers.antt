@@ -1,8 +1,4 @@
-use Prim.Native.Nat.{◌+◌, ◌≤◌}
 use native.Mathlib.Omega.{arith}
-use mathlib.Core.Path.{◌≡◌}
-use lib.ListN.{length}
-use Rattle.schedule.specs.Lines.{decimal}
 use Rattle.laws.proofs.LineLengths.{length-small, length_large, length_positive, length_most}
 use Rattle.text.proofs.decimal_length.Goals as goal
 

@@ -2,11 +2,9 @@
 -- the digits of the number. The measure is the rest.
 -- Assumes nothing.
 use Prim.Native.Nat.{◌+◌, ◌≤◌}
-use native.Mathlib.Omega.{arith}
 use mathlib.Core.Path.{◌≡◌}
 use lib.ListN.{length}
 use Rattle.schedule.specs.Lines.{decimal}
-use Rattle.laws.proofs.LineLengths.{length-small, length_large, length_positive, length_most}
 use Rattle.text.proofs.decimal_length.Given as goal
 
 abbrev pub invariant-loop-rest : goal.invariant-loop-rest

@@ -1,7 +1,6 @@
 -- `text::line_length` meets its contract: the lengths of the line's three parts.
 -- Assumes nothing.
 use native.Mathlib.Omega.{arith}
-use borrow.Author.Rules.{rules}
 use Rattle.text.proofs.TextLaws.{length-line}
 use Rattle.text.proofs.line_length.Goals as goal
 

@@ -1,15 +1,11 @@
 -- `text::put_decimal` meets its contract. The loop's invariant: the rest has i + 1 digits, no more than the number, and these,
 -- stored in front, give all digits stored. The measure is the rest.
 -- Assumes nothing.
-use Prim.Native.Nat.{ℕ, ◌+◌, ◌/◌, ◌<◌}
-use native.Mathlib.Omega.{arith}
-use borrow.Author.Rules.{rules}
-use mathlib.Core.Path.{◌≡◌, refl, ap, ◌∙◌}
-use lib.ListN.{length, length-set}
+use Prim.Native.Nat.{◌+◌, ◌<◌}
+use mathlib.Core.Path.{◌≡◌}
+use lib.ListN.{length}
 use lib.Seq.{sets}
 use Rattle.schedule.specs.Lines.{decimal}
-use Rattle.laws.proofs.LineLengths.{length_positive, length_large}
-use Rattle.text.proofs.AppendLaws.{decimal_next, decimal-done}
 use Rattle.text.proofs.put_decimal.Given as goal
 
 abbrev pub invariant-loop-rest : goal.invariant-loop-rest

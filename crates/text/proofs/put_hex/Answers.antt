@@ -1,11 +1,7 @@
-use Prim.Native.Nat.{◌+◌, ◌-◌, ◌≤◌}
 use native.Mathlib.Nat.{add-zero}
 use native.Mathlib.Omega.{arith}
-use borrow.Author.Rules.{rules}
-use mathlib.Core.Path.{◌≡◌}
-use lib.ListN.{length, length-set}
-use Rattle.text.specs.Appended.{Appended}
-use Rattle.text.proofs.DigitLaws.{first_digits, first-none}
+use lib.ListN.{length-set}
+use Rattle.text.proofs.DigitLaws.{first-none}
 use Rattle.text.proofs.AppendLaws.{appended_none, hex_next, hex-done}
 use Rattle.text.proofs.put_hex.Goals as goal
 

@@ -1,14 +1,10 @@
 -- `text::put_hex` meets its contract. The loop's invariant: the first i digits are stored. The measure is how many are left.
 -- Assumes nothing.
 use Prim.Native.Nat.{◌+◌, ◌-◌, ◌≤◌}
-use native.Mathlib.Nat.{add-zero}
-use native.Mathlib.Omega.{arith}
-use borrow.Author.Rules.{rules}
 use mathlib.Core.Path.{◌≡◌}
-use lib.ListN.{length, length-set}
+use lib.ListN.{length}
 use Rattle.text.specs.Appended.{Appended}
-use Rattle.text.proofs.DigitLaws.{first_digits, first-none}
-use Rattle.text.proofs.AppendLaws.{appended_none, hex_next, hex-done}
+use Rattle.text.proofs.DigitLaws.{first_digits}
 use Rattle.text.proofs.put_hex.Given as goal
 
 abbrev pub invariant-loop-i : goal.invariant-loop-i

@@ -1,7 +1,6 @@
 -- `text::put_line` meets its contract: the line's three parts, one behind the other.
 -- Assumes nothing.
 use native.Mathlib.Omega.{arith}
-use borrow.Author.Rules.{rules}
 use Rattle.text.specs.Said.{line}
 use Rattle.text.proofs.AppendLaws.{appended_both}
 use Rattle.text.proofs.TextLaws.{length-line}

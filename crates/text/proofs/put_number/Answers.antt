@@ -1,7 +1,6 @@
 -- `text::put_number` meets its contract: the number in decimal, and the byte behind it.
 -- Assumes nothing.
 use native.Mathlib.Omega.{arith}
-use borrow.Author.Rules.{rules}
 use Rattle.text.specs.Appended.{number}
 use Rattle.text.proofs.AppendLaws.{appended_byte, appended_both}
 use Rattle.text.proofs.TextLaws.{length-number}

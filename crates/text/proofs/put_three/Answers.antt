@@ -1,7 +1,6 @@
 -- `text::put_three` meets its contract: three numbers, each with the byte that ends it.
 -- Assumes nothing.
 use native.Mathlib.Omega.{arith}
-use borrow.Author.Rules.{rules}
 use Rattle.text.proofs.AppendLaws.{appended_both}
 use Rattle.text.proofs.TextLaws.{length-number, three-parts}
 use Rattle.laws.proofs.LineLengths.{length_three}

@@ -1,7 +1,6 @@
 -- `text::put_tick` meets its contract: the tick, the word's 8 digits and the end of the line.
 -- Assumes nothing.
 use native.Mathlib.Omega.{arith}
-use borrow.Author.Rules.{rules}
 use Rattle.text.proofs.AppendLaws.{appended_both}
 use Rattle.text.proofs.TextLaws.{length-number, tick-parts}
 use Rattle.laws.proofs.LineLengths.{length-hex, length-tick}

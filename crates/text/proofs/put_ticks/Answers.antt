@@ -1,9 +1,9 @@
-use Prim.Native.Nat.{ℕ, ◌-◌, ◌≤◌}
+use Prim.Native.Nat.{ℕ}
 use native.Mathlib.Omega.{arith}
-use mathlib.Core.Path.{◌≡◌, ap}
+use mathlib.Core.Path.{ap}
 use lib.ListN.{length}
 use Rattle.schedule.specs.Bounded.{chain}
-use Rattle.text.specs.Appended.{Appended, tick_text}
+use Rattle.text.specs.Appended.{tick_text}
 use Rattle.text.proofs.AppendLaws.{appended_none, appended_both}
 use Rattle.text.proofs.TextLaws.{chain-none, chain_next, chain_most, tick_text_is}
 use Rattle.text.proofs.put_ticks.Goals as goal

@@ -1,14 +1,11 @@
 -- `text::put_ticks` meets its contract. The loop's invariant: the lines of the t ticks passed are appended. The measure is
 -- what is left of the ticks.
 -- Assumes nothing.
-use Prim.Native.Nat.{ℕ, ◌-◌, ◌≤◌}
-use native.Mathlib.Omega.{arith}
-use mathlib.Core.Path.{◌≡◌, ap}
+use Prim.Native.Nat.{◌-◌, ◌≤◌}
+use mathlib.Core.Path.{◌≡◌}
 use lib.ListN.{length}
 use Rattle.schedule.specs.Bounded.{chain}
 use Rattle.text.specs.Appended.{Appended, tick_text}
-use Rattle.text.proofs.AppendLaws.{appended_none, appended_both}
-use Rattle.text.proofs.TextLaws.{chain-none, chain_next, chain_most, tick_text_is}
 use Rattle.text.proofs.put_ticks.Given as goal
 
 abbrev pub invariant-loop-t : goal.invariant-loop-t

@@ -1,6 +1,5 @@
 -- `text::put_word` meets its contract: each word's bytes.
 -- Assumes nothing.
-use borrow.Author.Rules.{rules}
 use Rattle.text.specs.Said.{verdict_word}
 use Rattle.text.proofs.put_word.Goals as goal
 

@@ -1,7 +1,6 @@
 -- `text::refusal_said` meets its contract: the refusal's number, and its place.
 -- Assumes nothing.
 use mathlib.Core.Path.{ap}
-use borrow.Author.Rules.{rules}
 use Rattle.text.specs.Said.{refusal_said}
 use Rattle.text.proofs.refusal_said.Goals as goal
 

@@ -1,7 +1,6 @@
 -- `text::run_lines` meets its contract: the ticks' lines and the last one are printed where they fit.
 -- Assumes nothing.
 use native.Mathlib.Omega.{arith}
-use borrow.Author.Rules.{rules}
 use Rattle.schedule.specs.Bounded.{chain}
 use Rattle.schedule.specs.Numbers.{run_numbers}
 use Rattle.text.specs.Said.{run_name, line}

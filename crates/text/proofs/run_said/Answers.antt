@@ -1,6 +1,5 @@
 -- `text::run_said` meets its contract: the figures, or the refusal.
 -- Assumes nothing.
-use borrow.Author.Rules.{rules}
 use Rattle.text.proofs.run_said.Goals as goal
 
 pub returns-in-Accepted : goal.returns-in-Accepted

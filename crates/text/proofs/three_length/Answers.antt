@@ -1,7 +1,6 @@
 -- `text::three_length` meets its contract: the digits of the three numbers, two spaces and the end of the line.
 -- Assumes nothing.
 use native.Mathlib.Omega.{arith}
-use borrow.Author.Rules.{rules}
 use Rattle.laws.proofs.LineLengths.{length_three}
 use Rattle.text.proofs.three_length.Goals as goal
 

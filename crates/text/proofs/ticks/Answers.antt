@@ -4,7 +4,6 @@ use mathlib.Core.Path.{ap}
 use Rattle.records.specs.Rows.{plan_sizes_of}
 use Rattle.records.specs.declared.plan.PlanSizes.{PlanSizes}
 use Rattle.text.specs.Appended.{ticks_of}
-use borrow.Author.Rules.{rules}
 use Rattle.text.proofs.ticks.Goals as goal
 
 pub returns-in-Accepted : goal.returns-in-Accepted

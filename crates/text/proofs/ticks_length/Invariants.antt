@@ -1,13 +1,10 @@
 -- `text::ticks_length` meets its contract. The loop's invariant: n is the length of the lines of the t ticks passed, at most
 -- 20 for each. The measure is what is left of the ticks.
 -- Assumes nothing.
-use Prim.Native.Nat.{ℕ, ◌-◌, ◌*◌, ◌≤◌}
-use native.Mathlib.Omega.{arith}
-use borrow.Author.Rules.{rules}
-use mathlib.Core.Path.{◌≡◌, ap, ◌∙◌}
+use Prim.Native.Nat.{◌-◌, ◌*◌, ◌≤◌}
+use mathlib.Core.Path.{◌≡◌}
 use Rattle.schedule.specs.Bounded.{total}
 use Rattle.text.specs.Appended.{tick_length}
-use Rattle.laws.proofs.Steps.{total-start, total_next}
 use Rattle.text.proofs.ticks_length.Given as goal
 
 abbrev pub invariant-loop-t : goal.invariant-loop-t

@@ -1,6 +1,5 @@
 -- `text::verdict_said` meets its contract: the figures, or the refusal.
 -- Assumes nothing.
-use borrow.Author.Rules.{rules}
 use Rattle.text.proofs.verdict_said.Goals as goal
 
 pub returns-in-Accepted : goal.returns-in-Accepted

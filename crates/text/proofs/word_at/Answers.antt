@@ -1,6 +1,5 @@
 -- `text::word_at` meets its contract: the plan's word. Assumes nothing.
 use Rattle.text.specs.Appended.{word_of}
-use borrow.Author.Rules.{rules}
 use Rattle.text.proofs.word_at.Goals as goal
 
 pub returns : goal.returns

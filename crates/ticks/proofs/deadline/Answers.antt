@@ -1,7 +1,6 @@
 -- `ticks::deadline` meets its contract: 64 bits hold the sum of any two numbers of 32 bits.
 -- Assumes nothing.
 use mathlib.Core.Path.{refl}
-use borrow.Author.Rules.{rules}
 use Rattle.ticks.proofs.deadline.Goals as goal
 
 pub returns : goal.returns

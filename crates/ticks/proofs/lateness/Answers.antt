@@ -7,7 +7,6 @@ use lib.IntN.{◌-ℤ◌, sub_ℕ}
 use mir.Syntax.{w64}
 use mir.Val.{SFits, to_z, of_z}
 use mir.ValLaws.{to_z-of_z, to_z_pos}
-use borrow.Author.Rules.{rules}
 use borrow.Author.Tests.{eq-eqb, ne_eqb}
 use Rattle.laws.proofs.LatenessLaws.{sub_is, sub_small}
 use Rattle.ticks.proofs.lateness.Goals as goal

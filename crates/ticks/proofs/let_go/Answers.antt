@@ -1,6 +1,5 @@
 -- `ticks::let_go` meets its contract, by its tests.
 -- Assumes nothing.
-use borrow.Author.Rules.{rules}
 use Rattle.ticks.proofs.let_go.Goals as goal
 
 pub returns-then-temporal : goal.returns-then-temporal

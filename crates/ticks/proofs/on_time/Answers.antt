@@ -1,6 +1,5 @@
 -- `ticks::on_time` meets its contract: a test for a period, and one of the end.
 -- Assumes nothing.
-use borrow.Author.Rules.{rules}
 use borrow.Author.Tests.{eq-eqb, ne_eqb}
 use Rattle.ticks.proofs.on_time.Goals as goal
 

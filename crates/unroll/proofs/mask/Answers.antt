@@ -2,7 +2,6 @@
 -- Assumes nothing.
 use mathlib.Core.Path.{sym}
 use Rattle.laws.proofs.RoundLaws.{moved_out}
-use borrow.Author.Rules.{rules}
 use Rattle.unroll.proofs.mask.Goals as goal
 
 pub returns-then-by-lt32 : goal.returns-then-by-lt32

@@ -2,7 +2,6 @@
 -- Assumes nothing.
 use native.Mathlib.Omega.{arith}
 use native.Mathlib.Nat.{mul-le-mul}
-use borrow.Author.Rules.{rules}
 use Rattle.unroll.proofs.moved.Goals as goal
 
 pub overflow_mul-result : goal.overflow_mul-result

@@ -2,7 +2,6 @@
 -- Assumes nothing.
 use native.Mathlib.Nat.{div-zero}
 use mathlib.Core.Path.{sym}
-use borrow.Author.Rules.{rules}
 use Rattle.unroll.proofs.round.Goals as goal
 
 pub returns-then-n-eq0 : goal.returns-then-n-eq0

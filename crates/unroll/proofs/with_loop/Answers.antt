@@ -1,7 +1,6 @@
 -- `with_loop` meets its contract: each way out has the tests that led there.
 -- Assumes nothing.
 use borrow.Author.Tests.{eq-eqb, ne_eqb}
-use borrow.Author.Rules.{rules}
 use Rattle.unroll.proofs.with_loop.Goals as goal
 
 pub returns-then-k-eq0 : goal.returns-then-k-eq0

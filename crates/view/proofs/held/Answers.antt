@@ -2,7 +2,6 @@
 -- Assumes nothing.
 use mathlib.Core.Path.{refl}
 use Rattle.view.specs.Grid.{held_bytes, held_from}
-use borrow.Author.Rules.{rules}
 use Rattle.view.proofs.held.Goals as goal
 
 pub returns-in-Refused : goal.returns-in-Refused

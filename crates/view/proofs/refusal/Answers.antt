@@ -1,6 +1,5 @@
 -- `view::refusal` meets its contract: the model's reader, then the plan's. Assumes nothing.
 use Rattle.view.proofs.RefusalLaws.{model_stops, plan-answers}
-use borrow.Author.Rules.{rules}
 use Rattle.view.proofs.refusal.Goals as goal
 
 pub returns-in-Refused : goal.returns-in-Refused

@@ -1,6 +1,5 @@
 -- `view::word_in` meets its contract: by the test of the tick. Assumes nothing.
 use native.Mathlib.Omega.{arith}
-use borrow.Author.Rules.{rules}
 use borrow.Author.Tests.{lt-ltb, le-ltb}
 use Rattle.schedule.specs.Plan.{ticks_in}
 use Rattle.view.specs.Grid.{grid_word}

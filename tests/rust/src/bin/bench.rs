@@ -8,7 +8,7 @@ use std::hint::black_box;
 use std::process::ExitCode;
 use std::time::{Duration, Instant};
 
-use grid_tests::claims::edits::{Calls, EXPORTS, REFERENCE};
+use grid_tests::claims::keeping::{Calls, EXPORTS, REFERENCE};
 use grid_tests::edits::Stroke;
 use grid_tests::records::{ActivityRow, Choice, Model, Rounds, ThreadRow, Wrapped, NO_LOOP};
 use grid_tests::{exchange, proved, reference, Answer, Editing, Part};
@@ -271,10 +271,10 @@ fn turning(plan: &[u8], activity: u32) -> Stroke {
     Stroke { marks: last_word >> activity & 1 == 0, activity, tick }
 }
 
-/// A direct edit of the last activity.
+/// A mark or a clear of the last activity, without an editing state.
 fn stroke(program: Calls, model: &[u8], plan: &mut [u8]) -> Answer {
     let last = u32::from(plan[6]) - 1;
-    program.edit(black_box(&mut Editing::default()), model, plan, turning(plan, last))
+    program.stateless.make(model, plan, turning(plan, last))
 }
 
 /// An ask that tells figures.

@@ -1,9 +1,10 @@
 //! Compares the exports with the reference over many pairs of records: a model and a plan by both checks, a model and a
 //! choice by the run and by the report of lateness, with the whole of what these two were lent; the report is then held
 //! against the exported run, and a page of version 2 or 3 against the record of its unrolled model, and against that of
-//! version 2 where version 3 has no width above 1. With many plans comes a list of calls that mark and clear ticks, and with
-//! many a list with asks and keeps among them, in some of which the plan or the model is changed elsewhere between two calls;
-//! the whole plan and the whole state are compared after each call. A list is then held against what 02 says of every list,
+//! version 2 where version 3 has no width above 1. With many plans comes a list of calls that mark and clear ticks, made
+//! without an editing state and once more with one, and with many a list with asks and keeps among them, in some of which the
+//! plan or the model is changed elsewhere between two calls; the whole plan and the whole state are compared after each call.
+//! A list is then held against what 02 says of every list,
 //! unless something was changed elsewhere or asked before it began. With each pair comes a pair or a file of wrapped models, of
 //! which the exports are asked which one stands; what they answer is then held against what 02 says of every file. It stops at
 //! the first difference, prints that case and exits with 1. It prints how often each call gave each answer, of all models and
@@ -28,7 +29,7 @@ use grid_tests::{exchange, proved, reference, Answer, Editing};
 
 const SEED: u64 = 2011;
 const CASES: u64 = 500_000;
-/// Bytes kept around the lent buffer, and rows around the lent list, to see that nothing outside them is written.
+/// Bytes kept around the lent buffer or plan, and rows around the lent list, to see that nothing outside them is written.
 const MARGIN: usize = 64;
 const MARGIN_BYTE: u8 = 0x5c;
 const MARGIN_ROW: i32 = 0x5c5c_5c5c;
@@ -37,15 +38,17 @@ const LONGEST_PLAN: usize = 16_553;
 /// The row of an activity whose thread has no period.
 const DASH: i32 = -2_147_483_648;
 
-/// The calls, and once more those whose model has a width above 1. Direct are the marks and clears of the lists with asks and
-/// keeps.
-const CALLS: [&str; 20] = [
+/// The calls, and once more those whose model has a width above 1. E-mark and e-clear are the marks and clears with an editing
+/// state; direct are those of them that stand in the lists with asks and keeps.
+const CALLS: [&str; 24] = [
     "plain",
     "strict",
     "run",
     "lateness",
     "mark",
     "clear",
+    "e-mark",
+    "e-clear",
     "ask",
     "keep",
     "direct",
@@ -57,15 +60,23 @@ const CALLS: [&str; 20] = [
     "lateness*",
     "mark*",
     "clear*",
+    "e-mark*",
+    "e-clear*",
     "ask*",
     "keep*",
     "direct*",
 ];
 /// How much later a call stands once more.
-const GANGS: usize = 11;
-const ASK: usize = 6;
-const KEEP: usize = 7;
-const DIRECT: usize = 8;
+const GANGS: usize = 13;
+const MARK: usize = 4;
+const CLEAR: usize = 5;
+const EDIT_MARK: usize = 6;
+const EDIT_CLEAR: usize = 7;
+const ASK: usize = 8;
+const KEEP: usize = 9;
+const DIRECT: usize = 10;
+const STANDS: usize = 11;
+const CHOOSE: usize = 12;
 /// How often each answer that a call can give must come.
 const LEAST: u64 = 100;
 /// What a model is refused by.
@@ -107,10 +118,10 @@ impl Counts {
             1 => &[MODEL, CHECKED, CHECKED_STRICTLY],
             2 => &[MODEL, RUN],
             3 => &[MODEL, LATENESS],
-            4 | 5 | DIRECT => &[MODEL, EDITED],
+            MARK | CLEAR | EDIT_MARK | EDIT_CLEAR | DIRECT => &[MODEL, EDITED],
             ASK => &[MODEL, EDITED, TOLD],
             KEEP => &[MODEL, EDITED, KEPT],
-            9 | 10 => &[EXCHANGED],
+            STANDS | CHOOSE => &[EXCHANGED],
             _ => return Counts::can_answer(call - GANGS, number) && !MODEL.contains(&number),
         };
         answers.iter().any(|numbers| numbers.contains(&number))
@@ -212,6 +223,7 @@ fn compare(case: &Case, counts: &mut Counts) -> Result<(), String> {
     }
     if !case.strokes.is_empty() {
         compare_edits(case, &mut answered)?;
+        compare_edits_with_state(case, &mut answered)?;
     }
     if let Some(before) = &case.buffer {
         let mut expected = before.clone();
@@ -239,8 +251,32 @@ fn compare(case: &Case, counts: &mut Counts) -> Result<(), String> {
 }
 
 /// Both programs make the calls of the list, each on its own plan: the plans, and the bytes around them, are the same after
-/// every call, and so are the states, and as 02 says of every list.
+/// every call, and as 02 says of every list.
 fn compare_edits(
+    case: &Case,
+    mut answered: impl FnMut(usize, Answer, Answer) -> Result<(), String>,
+) -> Result<(), String> {
+    let (model, plan) = (&case.model, MARGIN..MARGIN + case.second.len());
+    let mut expected = vec![MARGIN_BYTE; plan.end + MARGIN];
+    expected[plan.clone()].copy_from_slice(&case.second);
+    let mut space = expected.clone();
+    let mut calls = Vec::new();
+    for &stroke in &case.strokes {
+        let expected_answer = edits::REFERENCE.make(model, &mut expected[plan.clone()], stroke);
+        let answer = edits::EXPORTS.make(model, &mut space[plan.clone()], stroke);
+        answered(if stroke.marks { MARK } else { CLEAR }, expected_answer, answer)?;
+        if space != expected {
+            return Err(difference(case, &format!("the plan after {stroke:?}"), hex(&expected), hex(&space)));
+        }
+        calls.push((stroke, answer));
+    }
+    let list = List { model, before: &case.second, calls: &calls, after: &space[plan] };
+    edits::of_list(edits::EXPORTS, list)
+        .map_err(|claim| difference(case, "the list of edits", format!("of every list: {claim}"), &calls))
+}
+
+/// The same with the calls that take an editing state; the states are the same after every call too.
+fn compare_edits_with_state(
     case: &Case,
     mut answered: impl FnMut(usize, Answer, Answer) -> Result<(), String>,
 ) -> Result<(), String> {
@@ -250,12 +286,12 @@ fn compare_edits(
     for &stroke in &case.strokes {
         let turn = Turn { elsewhere: None, call: Call::Edit(stroke) };
         let (expected_answer, answer) = made_by_both(case, &turn, &mut expected, &mut lent)?;
-        answered(if stroke.marks { 4 } else { 5 }, expected_answer, answer)?;
+        answered(if stroke.marks { EDIT_MARK } else { EDIT_CLEAR }, expected_answer, answer)?;
         calls.push((stroke, answer));
     }
     let list = List { model: &case.model, before: &case.second, calls: &calls, after: lent.plan() };
     edits::of_list(edits::EXPORTS, list)
-        .map_err(|claim| difference(case, "the list of edits", format!("of every list: {claim}"), &calls))
+        .map_err(|claim| difference(case, "the list of edits with a state", format!("of every list: {claim}"), &calls))
 }
 
 /// The same with asks and keeps among the calls, and with what is changed elsewhere.
@@ -279,13 +315,13 @@ fn compare_turns(case: &Case, counts: &mut Counts) -> Result<(), String> {
     if case.state.asked_edit().is_some() || case.turns.iter().any(|turn| turn.elsewhere.is_some()) {
         return Ok(());
     }
-    keeping::of_list(edits::EXPORTS, &case.model, &case.second, &list)
+    keeping::of_list(keeping::EXPORTS, &case.model, &case.second, &list)
         .map_err(|claim| difference(case, "the list", format!("of every list: {claim}"), &list))
 }
 
 /// A call of the exports.
 fn export(state: &mut Editing, model: &[u8], plan: &mut [u8], call: Call) -> Answer {
-    edits::EXPORTS.make(state, model, plan, call)
+    keeping::EXPORTS.make(state, model, plan, call)
 }
 
 /// The answers of both programs to a call; what each was lent and handed is the same afterwards.
@@ -308,8 +344,8 @@ const EXPORTS: Calls = Calls { stands: proved::stands, choose: proved::choose };
 /// The exports tell which wrapped record stands as the reference does, and as 02 says of every pair and file.
 fn compare_wrapped(case: &files::Case, counts: &mut Counts) -> Result<(), String> {
     let (call, expected, answer) = match &case.given {
-        Given::Pair(first, second) => (9, exchange::stands(first, second), proved::stands(first, second)),
-        Given::File(file) => (10, exchange::choose(file), proved::choose(file)),
+        Given::Pair(first, second) => (STANDS, exchange::stands(first, second), proved::stands(first, second)),
+        Given::File(file) => (CHOOSE, exchange::choose(file), proved::choose(file)),
     };
     let text = || match &case.given {
         Given::Pair(first, second) => format!("first {}\nsecond {}", hex(first), hex(second)),
@@ -336,12 +372,16 @@ fn answered_alike(case: &Case) -> Result<(), String> {
         let mut plan = second.clone();
         let checked = [proved::check_plain(model, second), proved::check_strict(model, second)];
         let filled = [proved::run(model, second, &mut buffer), proved::lateness(model, second, &mut rows)];
-        let mut state = case.state;
-        let edit = |&stroke: &Stroke| edits::EXPORTS.edit(&mut state, model, &mut plan, stroke);
+        let edit = |&stroke: &Stroke| edits::EXPORTS.make(model, &mut plan, stroke);
         let edited: Vec<Answer> = case.strokes.iter().map(edit).collect();
+        let (mut state, mut other_plan) = (case.state, second.clone());
+        let edit = |&stroke: &Stroke| keeping::EXPORTS.edit(&mut state, model, &mut other_plan, stroke);
+        let edited_with_state: Vec<Answer> = case.strokes.iter().map(edit).collect();
         let mut lent = Lent::new(model, second, case.state);
         let turned: Vec<Answer> = case.turns.iter().map(|turn| lent.make(turn, export)).collect();
-        (checked, filled, edited, turned, buffer, rows, plan, lent.plan().to_vec(), lent.state)
+        let filled = (filled, buffer, rows);
+        let edited = (edited, plan, edited_with_state, other_plan, state);
+        (checked, filled, edited, turned, lent.plan().to_vec(), lent.state)
     };
     let mut page = None;
     for other in case.alike() {

@@ -1,52 +1,30 @@
 //! What 02 says of every list of mark and clear calls over one model, asked of the answers and of the plan afterwards.
 
 use super::{claim, Claim};
-use crate::edits::Stroke;
-use crate::keeping::{self, Call};
-use crate::{proved, reference, Answer, Editing};
+use crate::edits::{self, Stroke};
+use crate::{proved, reference, Answer};
 
-type Edit = fn(&mut Editing, &[u8], &mut [u8], u32, u32) -> Answer;
+type Edit = fn(&[u8], &mut [u8], u32, u32) -> Answer;
 
-/// The calls of a program through which the editing state goes, and its plain check.
+/// The two calls of a program, and its plain check.
 #[derive(Clone, Copy)]
 pub struct Calls {
-    pub ask: fn(&mut Editing, &[u8], &[u8], Stroke) -> Answer,
-    pub keep: fn(&mut Editing, &[u8], &mut [u8]) -> Answer,
     pub mark: Edit,
     pub clear: Edit,
     pub check_plain: fn(&[u8], &[u8]) -> Answer,
 }
 
 pub const REFERENCE: Calls = Calls {
-    ask: |state, model, plan, stroke| keeping::ask(state, model, plan, stroke).into(),
-    keep: |state, model, plan| keeping::keep(state, model, plan).into(),
-    mark: |state, model, plan, activity, tick| keeping::mark(state, model, plan, activity, tick).into(),
-    clear: |state, model, plan, activity, tick| keeping::clear(state, model, plan, activity, tick).into(),
+    mark: |model, plan, activity, tick| edits::mark(model, plan, activity, tick).into(),
+    clear: |model, plan, activity, tick| edits::clear(model, plan, activity, tick).into(),
     check_plain: |model, plan| reference::check_plain(model, plan).into(),
 };
-pub const EXPORTS: Calls = Calls {
-    ask: |state, model, plan, Stroke { marks, activity, tick }| {
-        proved::edit_ask(state, model, plan, marks, activity, tick)
-    },
-    keep: proved::edit_keep,
-    mark: proved::edit_mark,
-    clear: proved::edit_clear,
-    check_plain: proved::check_plain,
-};
+pub const EXPORTS: Calls = Calls { mark: proved::mark, clear: proved::clear, check_plain: proved::check_plain };
 
 impl Calls {
-    /// A direct edit.
-    pub fn edit(self, state: &mut Editing, model: &[u8], plan: &mut [u8], stroke: Stroke) -> Answer {
+    pub fn make(self, model: &[u8], plan: &mut [u8], stroke: Stroke) -> Answer {
         let edit = if stroke.marks { self.mark } else { self.clear };
-        edit(state, model, plan, stroke.activity, stroke.tick)
-    }
-
-    pub fn make(self, state: &mut Editing, model: &[u8], plan: &mut [u8], call: Call) -> Answer {
-        match call {
-            Call::Ask(stroke) => (self.ask)(state, model, plan, stroke),
-            Call::Keep => (self.keep)(state, model, plan),
-            Call::Edit(stroke) => self.edit(state, model, plan, stroke),
-        }
+        edit(model, plan, stroke.activity, stroke.tick)
     }
 }
 

@@ -1,12 +1,57 @@
 //! What 02 says of every list of asks, keeps and direct edits over one model, from a state with nothing asked. It is asked of
 //! the calls, the answers and the plans alone; what a call hands back as the state is asked in `of_state`.
 
-use super::edits::{self, of_form, Calls};
+use super::edits::{self, of_form};
 use super::{claim, Claim};
 use crate::edits::Stroke;
 use crate::keeping::lists::{Lent, Made, Turn};
-use crate::keeping::Call;
-use crate::{Answer, Editing};
+use crate::keeping::{self, Call};
+use crate::{proved, Answer, Editing};
+
+type Edit = fn(&mut Editing, &[u8], &mut [u8], u32, u32) -> Answer;
+
+/// The calls of a program through which the editing state goes, and its calls without one.
+#[derive(Clone, Copy)]
+pub struct Calls {
+    pub ask: fn(&mut Editing, &[u8], &[u8], Stroke) -> Answer,
+    pub keep: fn(&mut Editing, &[u8], &mut [u8]) -> Answer,
+    pub mark: Edit,
+    pub clear: Edit,
+    pub stateless: edits::Calls,
+}
+
+pub const REFERENCE: Calls = Calls {
+    ask: |state, model, plan, stroke| keeping::ask(state, model, plan, stroke).into(),
+    keep: |state, model, plan| keeping::keep(state, model, plan).into(),
+    mark: |state, model, plan, activity, tick| keeping::mark(state, model, plan, activity, tick).into(),
+    clear: |state, model, plan, activity, tick| keeping::clear(state, model, plan, activity, tick).into(),
+    stateless: edits::REFERENCE,
+};
+pub const EXPORTS: Calls = Calls {
+    ask: |state, model, plan, Stroke { marks, activity, tick }| {
+        proved::edit_ask(state, model, plan, marks, activity, tick)
+    },
+    keep: proved::edit_keep,
+    mark: proved::edit_mark,
+    clear: proved::edit_clear,
+    stateless: edits::EXPORTS,
+};
+
+impl Calls {
+    /// A direct edit.
+    pub fn edit(self, state: &mut Editing, model: &[u8], plan: &mut [u8], stroke: Stroke) -> Answer {
+        let edit = if stroke.marks { self.mark } else { self.clear };
+        edit(state, model, plan, stroke.activity, stroke.tick)
+    }
+
+    pub fn make(self, state: &mut Editing, model: &[u8], plan: &mut [u8], call: Call) -> Answer {
+        match call {
+            Call::Ask(stroke) => (self.ask)(state, model, plan, stroke),
+            Call::Keep => (self.keep)(state, model, plan),
+            Call::Edit(stroke) => self.edit(state, model, plan, stroke),
+        }
+    }
+}
 
 const DONE: Answer = Answer { number: 0, first: 0, second: 0, third: 0, length: 0 };
 
@@ -36,7 +81,7 @@ pub fn of_turns(program: Calls, lent: &mut Lent, turns: &[Turn]) -> Result<Vec<M
 
 /// What is said of a list over a plan, each call handed the state and the plan as last left.
 pub fn of_list(program: Calls, model: &[u8], before: &[u8], list: &[Made]) -> Claim {
-    let checked = (program.check_plain)(model, before);
+    let checked = (program.stateless.check_plain)(model, before);
     if of_form(checked) {
         let alike = list.iter().all(|made| made.answer == checked);
         claim(alike, "what 1 to 14 refuse of a check they refuse of every call")?;
@@ -51,7 +96,7 @@ pub fn of_list(program: Calls, model: &[u8], before: &[u8], list: &[Made]) -> Cl
         }
         claim(*plan == page.plan, "the plan is that of the kept edits alone")?;
     }
-    edits::of_list(program, edits::List { model, before, calls: &page.kept, after: &page.plan })
+    edits::of_list(program.stateless, edits::List { model, before, calls: &page.kept, after: &page.plan })
 }
 
 /// A list so far.
@@ -74,7 +119,7 @@ impl Page<'_> {
     }
 
     fn verdict(&self, plan: &[u8]) -> Answer {
-        (self.program.check_plain)(self.model, plan)
+        (self.program.stateless.check_plain)(self.model, plan)
     }
 
     fn ask(&mut self, stroke: Stroke, answer: Answer) -> Claim {

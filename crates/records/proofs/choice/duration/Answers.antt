@@ -1,7 +1,6 @@
 -- `choice::duration` meets its contract: the field read is that of the definition.
 -- Assumes nothing.
 use Rattle.schedule.specs.Choice.{choice}
-use borrow.Author.Rules.{rules}
 use Rattle.records.proofs.choice.duration.Goals as goal
 
 pub returns : goal.returns

@@ -1,7 +1,6 @@
 -- `choice::formula` meets its contract: the fields read are those of the definition.
 -- Assumes nothing.
 use Rattle.schedule.specs.Choice.{choice}
-use borrow.Author.Rules.{rules}
 use Rattle.records.proofs.choice.formula.Goals as goal
 
 pub returns : goal.returns

@@ -1,7 +1,6 @@
 -- `records::choice::read_both` meets its contract: the model's refusal, or the choice's.
 -- Assumes nothing.
 use mathlib.Core.Path.{sym, ap, ◌∙◌}
-use borrow.Author.Rules.{rules}
 use Rattle.laws.proofs.VerdictLaws.{model_breaks, model-holds}
 use Rattle.records.specs.Reads.{model_read_numbers, choice_read_numbers}
 use Rattle.records.proofs.Reading.{answer-refuses, answer-accepts}

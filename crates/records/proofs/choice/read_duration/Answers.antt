@@ -1,7 +1,6 @@
 -- `choice::read_duration` meets its contract: the test of the duration that was read is rule 13's.
 -- Assumes nothing.
 use Rattle.records.proofs.RowTests.{duration_answered}
-use borrow.Author.Rules.{rules}
 use Rattle.records.proofs.choice.read_duration.Goals as goal
 
 pub returns : goal.returns

@@ -3,7 +3,6 @@
 use mathlib.Core.Path.{ap, ◌∙◌}
 use Rattle.schedule.specs.Choice.{choice}
 use Rattle.records.specs.Rows.{timing_at}
-use borrow.Author.Rules.{rules}
 use Rattle.records.proofs.choice.thread_row.Goals as goal
 
 pub returns : goal.returns

@@ -2,7 +2,6 @@
 -- Assumes nothing.
 use Rattle.schedule.specs.Choice.{choice}
 use Rattle.records.specs.Rows.{timing_at}
-use borrow.Author.Rules.{rules}
 use Rattle.records.proofs.choice.timing_at.Goals as goal
 
 pub returns : goal.returns

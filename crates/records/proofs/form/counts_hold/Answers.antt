@@ -1,10 +1,9 @@
 -- `form::counts_hold` meets its contract: each way out has the tests that led there.
 -- Assumes nothing.
 use mathlib.Core.Path.{ap}
-use borrow.Author.Tests.{eq-eqb, ne_eqb, not-false, not-true}
+use borrow.Author.Tests.{eq-eqb, ne_eqb}
 use Rattle.records.specs.declared.model.Sizes.{Sizes}
 use Rattle.records.specs.Rows.{sizes_of, counts_hold}
-use borrow.Author.Rules.{rules}
 use Rattle.records.proofs.form.counts_hold.Goals as goal
 
 pub returns-then-not-same_horizon : goal.returns-then-not-same_horizon

@@ -1,9 +1,7 @@
 -- `form::head` meets its contract: each way out has the tests that led there, in the order of the rules.
 -- Assumes nothing.
-use borrow.Author.Tests.{not-false, not-true}
 use Rattle.records.specs.Reads.{head_break}
 use Rattle.records.proofs.Reading.{told_no, told-yes}
-use borrow.Author.Rules.{rules}
 use Rattle.records.proofs.form.head.Goals as goal
 
 pub returns-then-not-length_holds : goal.returns-then-not-length_holds

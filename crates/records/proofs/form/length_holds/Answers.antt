@@ -1,6 +1,5 @@
 -- `form::length_holds` meets its contract: each way out has the test that led there. The lengths are compared as numbers.
 -- Assumes nothing.
-use borrow.Author.Rules.{rules}
 use borrow.Author.Tests.{le-leb, lt-leb}
 use Rattle.records.proofs.form.length_holds.Goals as goal
 

@@ -1,6 +1,5 @@
 -- `form::none_from` meets its contract. The word's & with the bits from n on is 0.
 -- Assumes nothing.
-use borrow.Author.Rules.{rules}
 use Rattle.records.specs.Rows.{none_from}
 use Rattle.records.proofs.Masks.{none_from as below_none}
 use Rattle.records.proofs.form.none_from.Goals as goal

@@ -3,7 +3,6 @@
 use mathlib.Core.Bool.{Bool}
 use mathlib.Core.Path.{ap, ◌∙◌}
 use Rattle.records.specs.Reads.{head_break, second_names}
-use borrow.Author.Rules.{rules}
 use Rattle.records.proofs.form.second_head.Goals as goal
 
 pub returns : goal.returns

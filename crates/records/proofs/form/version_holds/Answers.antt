@@ -1,6 +1,5 @@
 -- `form::version_holds` meets its contract: the field read is that of the definition.
 -- Assumes nothing.
-use borrow.Author.Rules.{rules}
 use Rattle.records.proofs.form.version_holds.Goals as goal
 
 pub returns : goal.returns

@@ -2,7 +2,6 @@
 -- Assumes nothing.
 use native.Mathlib.Omega.{arith}
 use Rattle.records.proofs.WriteLaws.{put_at, word_out}
-use borrow.Author.Rules.{rules}
 use Rattle.records.proofs.grid.put_word.Goals as goal
 
 pub returns-then-t-le-LAST : goal.returns-then-t-le-LAST

@@ -6,7 +6,6 @@ use mathlib.Core.Path.{sym, ap, ◌∙◌}
 use Rattle.schedule.specs.Fields.{field}
 use Rattle.schedule.specs.Plan.{tick_at}
 use Rattle.fields.proofs.ReadLaws.{field_past}
-use borrow.Author.Rules.{rules}
 use Rattle.records.proofs.grid.word.Goals as goal
 
 pub returns-then-t-le-LAST : goal.returns-then-t-le-LAST

@@ -1,7 +1,6 @@
 -- `model::activity_by_round` meets its contract: zeros, or a row of the page moved on to its round.
 -- Assumes nothing.
 use Rattle.records.proofs.UnrolledRows.{activity-past, activity_here}
-use borrow.Author.Rules.{rules}
 use Rattle.records.proofs.model.activity_by_round.Goals as goal
 
 pub returns-then-in_all-a : goal.returns-then-in_all-a

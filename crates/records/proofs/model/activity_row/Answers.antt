@@ -1,7 +1,6 @@
 -- `model::activity_row` meets its contract: a row of round 0 read at its place, or any row by its round.
 -- Assumes nothing.
 use Rattle.records.proofs.UnrolledRows.{activity-first}
-use borrow.Author.Rules.{rules}
 use Rattle.records.proofs.model.activity_row.Goals as goal
 
 pub returns-then-at-s : goal.returns-then-at-s

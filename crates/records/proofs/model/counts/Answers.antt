@@ -2,7 +2,6 @@
 -- Assumes nothing.
 use mathlib.Core.Path.{◌∙◌}
 use Rattle.records.proofs.UnrolledRows.{all-counts}
-use borrow.Author.Rules.{rules}
 use Rattle.records.proofs.model.counts.Goals as goal
 
 pub returns : goal.returns

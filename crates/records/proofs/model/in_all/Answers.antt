@@ -1,7 +1,6 @@
 -- `model::in_all` meets its contract: a product each for threads and activities.
 -- Assumes nothing.
 use Rattle.records.specs.Unrolled.{unrolled_sizes}
-use borrow.Author.Rules.{rules}
 use Rattle.records.proofs.model.in_all.Goals as goal
 
 pub returns : goal.returns

@@ -2,7 +2,6 @@
 -- Assumes nothing.
 use Rattle.records.specs.Rows.{timing_holds}
 use Rattle.records.proofs.Reading.{told_no, told-yes}
-use borrow.Author.Rules.{rules}
 use Rattle.records.proofs.model.in_range.Goals as goal
 
 pub returns-then-not-within : goal.returns-then-not-within

@@ -1,7 +1,6 @@
 -- `model::moved_activity` meets its contract: the thread and both masks are moved.
 -- Assumes nothing.
 use Rattle.records.specs.Unrolled.{moved_activity}
-use borrow.Author.Rules.{rules}
 use Rattle.records.proofs.model.moved_activity.Goals as goal
 
 pub returns : goal.returns

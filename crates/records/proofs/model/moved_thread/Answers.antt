@@ -1,7 +1,6 @@
 -- `model::moved_thread` meets its contract: both ends of the release range are moved.
 -- Assumes nothing.
 use Rattle.records.specs.Unrolled.{moved_thread}
-use borrow.Author.Rules.{rules}
 use Rattle.records.proofs.model.moved_thread.Goals as goal
 
 pub returns : goal.returns

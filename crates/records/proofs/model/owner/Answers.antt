@@ -1,6 +1,5 @@
 -- `model::owner` meets its contract: 0, or the thread of the page's row moved on to its round.
 -- Assumes nothing.
-use borrow.Author.Rules.{rules}
 use Rattle.records.proofs.UnrolledRows.{owner-past, owner_here}
 use Rattle.records.proofs.model.owner.Goals as goal
 

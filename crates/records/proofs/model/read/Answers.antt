@@ -3,7 +3,6 @@
 use mathlib.Core.Path.{sym, ◌∙◌}
 use Rattle.records.proofs.Forms.{model-form}
 use Rattle.records.proofs.Reading.{pass_refused, pass_holds, last_refused, last_holds, answer-refused, answer-accepted}
-use borrow.Author.Rules.{rules}
 use Rattle.records.proofs.model.read.Goals as goal
 
 pub returns-in-Refused : goal.returns-in-Refused

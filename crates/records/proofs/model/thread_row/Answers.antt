@@ -1,7 +1,6 @@
 -- `model::thread_row` meets its contract: a row of round 0 read at its place, or any row by its round.
 -- Assumes nothing.
 use Rattle.records.proofs.UnrolledRows.{thread-first}
-use borrow.Author.Rules.{rules}
 use Rattle.records.proofs.model.thread_row.Goals as goal
 
 pub returns-then-at-s : goal.returns-then-at-s

@@ -1,6 +1,5 @@
 -- `model::width` meets its contract: 0, or the width of the page's row.
 -- Assumes nothing.
-use borrow.Author.Rules.{rules}
 use Rattle.records.proofs.UnrolledRows.{width-past, width_here}
 use Rattle.records.proofs.model.width.Goals as goal
 

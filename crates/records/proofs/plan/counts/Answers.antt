@@ -2,7 +2,6 @@
 -- Assumes nothing.
 use Rattle.schedule.specs.Plan.{plan}
 use Rattle.records.specs.Rows.{plan_sizes_of}
-use borrow.Author.Rules.{rules}
 use Rattle.records.proofs.plan.counts.Goals as goal
 
 pub returns : goal.returns

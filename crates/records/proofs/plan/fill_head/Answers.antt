@@ -1,7 +1,6 @@
 -- `plan::fill_head` meets its contract: five fields, each behind the one before.
 -- Assumes nothing.
 use Rattle.records.proofs.WriteLaws.{head-says}
-use borrow.Author.Rules.{rules}
 use Rattle.records.proofs.plan.fill_head.Goals as goal
 
 pub returns : goal.returns

@@ -1,7 +1,6 @@
 -- `plan::fill_pair` meets its contract: two fields, the second behind the first.
 -- Assumes nothing.
 use Rattle.records.proofs.WriteLaws.{pair-says}
-use borrow.Author.Rules.{rules}
 use Rattle.records.proofs.plan.fill_pair.Goals as goal
 
 pub returns : goal.returns

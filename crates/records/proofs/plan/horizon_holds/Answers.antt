@@ -4,7 +4,6 @@ use mathlib.Core.Path.{ap}
 use lib.Dec.{eqb}
 use Rattle.records.specs.declared.model.Sizes.{Sizes}
 use Rattle.records.specs.Rows.{sizes_of, horizon_holds}
-use borrow.Author.Rules.{rules}
 use Rattle.records.proofs.plan.horizon_holds.Goals as goal
 
 pub returns : goal.returns

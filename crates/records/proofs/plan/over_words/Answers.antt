@@ -1,14 +1,12 @@
-use Prim.Native.Nat.{◌-◌, ◌≤◌}
 use native.Mathlib.Omega.{arith}
 use mathlib.Core.Path.{refl, sym, ap}
 use Rattle.schedule.specs.Model.{model}
-use Rattle.schedule.specs.Plan.{plan, word_rule}
-use Rattle.laws.proofs.RowLaws.{ClearTo, clear-start}
+use Rattle.schedule.specs.Plan.{word_rule}
+use Rattle.laws.proofs.RowLaws.{clear-start}
 use Rattle.records.specs.declared.model.Sizes.{Sizes}
 use Rattle.records.specs.Rows.{sizes_of}
 use Rattle.records.proofs.Reading.{row-refused, row-taken, rows_end}
 use Rattle.records.proofs.RowTests.{word_answered}
-use borrow.Author.Rules.{rules}
 use Rattle.records.proofs.plan.over_words.Goals as goal
 
 pub loop-t-init : goal.loop-t-init

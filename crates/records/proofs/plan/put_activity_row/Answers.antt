@@ -1,7 +1,6 @@
 -- `plan::put_activity_row` meets its contract: the row at its place.
 -- Assumes nothing.
 use Rattle.records.proofs.WriteLaws.{put_at}
-use borrow.Author.Rules.{rules}
 use Rattle.records.proofs.plan.put_activity_row.Goals as goal
 
 pub returns : goal.returns

@@ -2,7 +2,6 @@
 -- Assumes nothing.
 use native.Mathlib.Omega.{arith}
 use Rattle.records.proofs.WriteLaws.{head_out}
-use borrow.Author.Rules.{rules}
 use Rattle.records.proofs.plan.put_head.Goals as goal
 
 pub returns-else-out-ge9 : goal.returns-else-out-ge9

@@ -2,7 +2,6 @@
 -- Assumes nothing.
 use native.Mathlib.Omega.{arith}
 use Rattle.records.proofs.WriteLaws.{pair_out}
-use borrow.Author.Rules.{rules}
 use Rattle.records.proofs.plan.put_pair.Goals as goal
 
 pub returns-else-at-out : goal.returns-else-at-out

@@ -3,7 +3,6 @@
 use Prim.Native.Nat.{◌+◌}
 use mathlib.Core.Path.{ap₂}
 use Rattle.records.proofs.WriteLaws.{put_at}
-use borrow.Author.Rules.{rules}
 use Rattle.records.proofs.plan.put_word.Goals as goal
 
 pub returns : goal.returns

@@ -3,7 +3,6 @@
 use mathlib.Core.Path.{sym, ◌∙◌}
 use Rattle.records.proofs.Forms.{plan-form}
 use Rattle.records.proofs.Reading.{last_holds, last_refused, pass_holds, pass_refused}
-use borrow.Author.Rules.{rules}
 use Rattle.records.proofs.plan.read.Goals as goal
 
 pub returns-in-Refused : goal.returns-in-Refused

@@ -1,6 +1,5 @@
 -- `plan::read_word` meets its contract: the test of the word that was read is rule 14's.
 -- Assumes nothing.
-use borrow.Author.Rules.{rules}
 use Rattle.records.proofs.plan.read_word.Goals as goal
 
 pub returns : goal.returns

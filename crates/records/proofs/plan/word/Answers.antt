@@ -6,7 +6,6 @@ use Rattle.schedule.specs.Fields.{field}
 use Rattle.schedule.specs.Plan.{plan, grid_at}
 use Rattle.records.specs.Rows.{plan_sizes_of}
 use Rattle.records.specs.declared.plan.PlanSizes.{PlanSizes}
-use borrow.Author.Rules.{rules}
 use Rattle.records.proofs.plan.word.Goals as goal
 
 pub returns : goal.returns

@@ -6,7 +6,6 @@ use Rattle.schedule.specs.Plan.{grid_at}
 use Rattle.records.specs.declared.plan.PlanSizes.{PlanSizes}
 use Rattle.records.specs.Rows.{plan_sizes_of}
 use Rattle.records.proofs.GridPart.{grid_part, begins_behind, begins_at_end}
-use borrow.Author.Rules.{rules}
 use Rattle.records.proofs.plan.words.Goals as goal
 
 pub returns-then-at-end : goal.returns-then-at-end

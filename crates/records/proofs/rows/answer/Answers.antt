@@ -2,7 +2,6 @@
 -- Assumes nothing.
 use mathlib.Core.Path.{ap}
 use Rattle.schedule.specs.Answers.{refused}
-use borrow.Author.Rules.{rules}
 use Rattle.records.proofs.rows.answer.Goals as goal
 
 pub returns-then-holds : goal.returns-then-holds

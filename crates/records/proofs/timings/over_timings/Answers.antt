@@ -1,13 +1,10 @@
-use Prim.Native.Nat.{◌-◌, ◌≤◌}
 use native.Mathlib.Omega.{arith}
 use mathlib.Core.Path.{refl, sym, ap}
-use Rattle.schedule.specs.Model.{model}
 use Rattle.schedule.specs.Choice.{range_rule}
-use Rattle.laws.proofs.RowLaws.{ClearTo, clear-start}
+use Rattle.laws.proofs.RowLaws.{clear-start}
 use Rattle.records.specs.declared.model.Sizes.{Sizes}
-use Rattle.records.specs.Rows.{sizes_of, timing_rule}
+use Rattle.records.specs.Rows.{sizes_of}
 use Rattle.records.proofs.Reading.{row-refused, row-taken, rows_end}
-use borrow.Author.Rules.{rules}
 use Rattle.records.proofs.timings.over_timings.Goals as goal
 
 pub loop-j-init : goal.loop-j-init

@@ -1,7 +1,6 @@
 -- `timings::read_timing` meets its contract: the test of the row that was read is rule 12's.
 -- Assumes nothing.
 use Rattle.records.proofs.RowTests.{timing_answered}
-use borrow.Author.Rules.{rules}
 use Rattle.records.proofs.timings.read_timing.Goals as goal
 
 pub returns : goal.returns

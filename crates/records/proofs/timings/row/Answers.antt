@@ -1,7 +1,6 @@
 -- `timings::row` meets its contract: the fields read are those of the definition.
 -- Assumes nothing.
 use Rattle.records.specs.Rows.{timing, timing_at}
-use borrow.Author.Rules.{rules}
 use Rattle.records.proofs.timings.row.Goals as goal
 
 pub returns : goal.returns

@@ -3,7 +3,6 @@
 use mathlib.Core.Path.{ap, ◌∙◌}
 use lib.Bits.{bit_and}
 use lib.Dec.{ltb}
-use borrow.Author.Rules.{rules}
 use Rattle.schedule.specs.Bounded.{word_of}
 use Rattle.schedule.specs.Model.{model}
 use Rattle.records.specs.declared.model.Sizes.{Sizes}

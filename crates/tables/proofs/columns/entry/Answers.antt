@@ -10,7 +10,6 @@ use Rattle.records.specs.declared.model.ThreadRow.{ThreadRow}
 use Rattle.records.specs.declared.plan.Span.{Span}
 use Rattle.records.specs.declared.plan.Timing.{Timing}
 use Rattle.tables.specs.Columns.{among_activities}
-use borrow.Author.Rules.{rules}
 use Rattle.tables.proofs.columns.entry.Goals as goal
 
 pub returns-in-Delay : goal.returns-in-Delay

@@ -1,10 +1,6 @@
-use Prim.Native.Nat.{◌≤◌, ◌-◌, min}
 use native.Mathlib.Omega.{arith}
-use mathlib.Core.Path.{◌≡◌}
-use borrow.Author.Rules.{rules}
-use Rattle.schedule.specs.Model.{model}
-use Rattle.tables.specs.Columns.{entry_of, column_of}
-use Rattle.tables.proofs.TableLaws.{Filled, filled_none, filled_next, filled-whole}
+use Rattle.tables.specs.Columns.{column_of}
+use Rattle.tables.proofs.TableLaws.{filled_none, filled_next, filled-whole}
 use Rattle.tables.proofs.columns.table.Goals as goal
 
 pub loop-number-init : goal.loop-number-init

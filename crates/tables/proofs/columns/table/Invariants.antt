@@ -1,12 +1,10 @@
 -- `tables::columns::table` meets its contract: the entries passed are filled in.
 -- Assumes nothing.
 use Prim.Native.Nat.{◌≤◌, ◌-◌, min}
-use native.Mathlib.Omega.{arith}
 use mathlib.Core.Path.{◌≡◌}
-use borrow.Author.Rules.{rules}
 use Rattle.schedule.specs.Model.{model}
-use Rattle.tables.specs.Columns.{entry_of, column_of}
-use Rattle.tables.proofs.TableLaws.{Filled, filled_none, filled_next, filled-whole}
+use Rattle.tables.specs.Columns.{entry_of}
+use Rattle.tables.proofs.TableLaws.{Filled}
 use Rattle.tables.proofs.columns.table.Given as goal
 
 abbrev pub invariant-loop-number : goal.invariant-loop-number

@@ -1,9 +1,7 @@
-use Prim.Native.Nat.{ℕ, ◌≤◌, ◌<◌, ◌-◌}
+use Prim.Native.Nat.{ℕ, ◌<◌}
 use native.Mathlib.Omega.{arith}
 use mathlib.Core.List.{List}
 use mathlib.Core.Path.{◌≡◌, refl, sym, ap, ◌∙◌}
-use lib.ListN.{length, get_or}
-use borrow.Author.Rules.{rules}
 use Rattle.schedule.specs.Bounded.{bit, count}
 use Rattle.schedule.specs.Model.{model}
 use Rattle.schedule.specs.Plan.{word_in}
@@ -21,8 +19,7 @@ use Rattle.tables.proofs.counts.counts.Goals as goal
 pub loop-t-init : goal.loop-t-init
 unfolding sizes_of
 loop-t-init c =
-    let e = ap (λ (y : Sizes). y.horizon) c.counts-sizes.ensures in
-    (
+    let e = ap (λ (y : Sizes). y.horizon) c.counts-sizes.ensures in (
       omega arith,
       e,
       omega (arith, e, horizon_lt c.args.s.now (λ i _. (c.type_inv.s i).fits)),

@@ -1,12 +1,9 @@
 use native.Mathlib.Omega.{arith}
-use Prim.Native.Nat.{ℕ, ◌+◌, ◌^◌, ◌<◌}
-use mathlib.Core.Bool.{cond}
-use mathlib.Core.Path.{◌≡◌, refl, ◌∙◌}
-use lib.ListN.{length, get_or, length-set}
+use mathlib.Core.Path.{refl, ◌∙◌}
+use lib.ListN.{length-set}
 use Rattle.schedule.specs.Bounded.{bit}
 use Rattle.bits.proofs.Apart.{lowest_lt, rest_less}
 use Rattle.tables.proofs.CountLaws.{at_most_one, none_counted, tally_next}
-use borrow.Author.Rules.{rules}
 use Rattle.tables.proofs.counts.tally.Goals as goal
 
 pub loop-rest-init : goal.loop-rest-init

@@ -1,13 +1,9 @@
 -- `tables::counts::tally` meets its contract: what is counted and what is left of the word come to the same. Assumes nothing.
-use native.Mathlib.Omega.{arith}
 use Prim.Native.Nat.{ℕ, ◌+◌, ◌^◌, ◌<◌}
 use mathlib.Core.Bool.{cond}
-use mathlib.Core.Path.{◌≡◌, refl, ◌∙◌}
-use lib.ListN.{length, get_or, length-set}
+use mathlib.Core.Path.{◌≡◌}
+use lib.ListN.{length, get_or}
 use Rattle.schedule.specs.Bounded.{bit}
-use Rattle.bits.proofs.Apart.{lowest_lt, rest_less}
-use Rattle.tables.proofs.CountLaws.{at_most_one, none_counted, tally_next}
-use borrow.Author.Rules.{rules}
 use Rattle.tables.proofs.counts.tally.Given as goal
 
 abbrev pub invariant-loop-rest : goal.invariant-loop-rest

@@ -1,7 +1,6 @@
 -- `tables::figures::end_of` meets its contract: the row is that of the definition. Assumes nothing.
 use mathlib.Core.Path.{ap}
 use Rattle.records.specs.Rows.{span_of}
-use borrow.Author.Rules.{rules}
 use Rattle.tables.proofs.figures.end_of.Goals as goal
 
 pub returns : goal.returns

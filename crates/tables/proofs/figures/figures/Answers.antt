@@ -18,7 +18,6 @@ use Rattle.tables.specs.declared.loads.Widths.{Widths}
 use Rattle.tables.specs.Loads.{widths_of, load_from}
 use Rattle.tables.proofs.CountLaws.{product_fits}
 use Rattle.tables.proofs.LoadLaws.{load_is}
-use borrow.Author.Rules.{rules}
 use Rattle.tables.proofs.figures.figures.Goals as goal
 
 pub overflow_mul-capacity : goal.overflow_mul-capacity

@@ -1,10 +1,9 @@
-use Prim.Native.Nat.{◌≤◌, ◌-◌, max}
+use Prim.Native.Nat.{max}
 use native.Mathlib.Omega.{arith}
 use mathlib.Core.Path.{◌≡◌, sym, ap, ap₂, ◌∙◌}
 use Rattle.schedule.specs.Bounded.{greatest}
 use Rattle.schedule.specs.Plan.{plan}
 use Rattle.laws.proofs.Steps.{greatest_next, greatest-start}
-use borrow.Author.Rules.{rules}
 use Rattle.tables.proofs.figures.latest_end.Goals as goal
 
 pub loop-a-init : goal.loop-a-init

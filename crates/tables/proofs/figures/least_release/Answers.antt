@@ -1,10 +1,9 @@
-use Prim.Native.Nat.{ℕ, ◌≤◌, ◌-◌, min}
+use Prim.Native.Nat.{ℕ, min}
 use native.Mathlib.Omega.{arith}
 use mathlib.Core.Path.{◌≡◌, sym, ap, ap₂, ◌∙◌}
 use Rattle.schedule.specs.Bounded.{least}
 use Rattle.laws.proofs.Steps.{least_next, least_start, least-none}
 use Rattle.tables.specs.Releases.{releases_of}
-use borrow.Author.Rules.{rules}
 use Rattle.tables.proofs.figures.least_release.Goals as goal
 
 pub returns-then-n-eq0 : goal.returns-then-n-eq0

@@ -1,11 +1,8 @@
 -- `tables::figures::least_release` meets its contract: the least release of the threads passed. Assumes nothing.
-use Prim.Native.Nat.{ℕ, ◌≤◌, ◌-◌, min}
-use native.Mathlib.Omega.{arith}
-use mathlib.Core.Path.{◌≡◌, sym, ap, ap₂, ◌∙◌}
+use Prim.Native.Nat.{◌≤◌, ◌-◌}
+use mathlib.Core.Path.{◌≡◌}
 use Rattle.schedule.specs.Bounded.{least}
-use Rattle.laws.proofs.Steps.{least_next, least_start, least-none}
 use Rattle.tables.specs.Releases.{releases_of}
-use borrow.Author.Rules.{rules}
 use Rattle.tables.proofs.figures.least_release.Given as goal
 
 abbrev pub invariant-loop-j : goal.invariant-loop-j

@@ -1,7 +1,6 @@
 -- `tables::figures::load_after` meets its contract: the same word takes the same cores.
 -- Assumes nothing.
 use mathlib.Core.Path.{sym, ap, ◌∙◌}
-use borrow.Author.Rules.{rules}
 use Rattle.tables.specs.Loads.{load_from}
 use Rattle.tables.proofs.figures.load_after.Goals as goal
 

@@ -2,7 +2,6 @@
 use mathlib.Core.Path.{ap}
 use Rattle.records.specs.declared.plan.Timing.{Timing}
 use Rattle.records.specs.Rows.{timing}
-use borrow.Author.Rules.{rules}
 use Rattle.tables.proofs.figures.release_of.Goals as goal
 
 pub returns-in-Choice : goal.returns-in-Choice

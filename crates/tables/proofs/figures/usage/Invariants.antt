@@ -1,14 +1,10 @@
 -- `tables::figures::usage` meets its contract: the sum so far, and the cores of the last word.
 -- Assumes nothing.
-use Prim.Native.Nat.{◌+◌, ◌*◌, ◌≤◌, ◌-◌}
-use native.Mathlib.Omega.{arith}
-use mathlib.Core.Path.{◌≡◌, sym, ap, ap₂, ◌∙◌}
-use borrow.Author.Rules.{rules}
+use Prim.Native.Nat.{◌*◌, ◌≤◌, ◌-◌}
+use mathlib.Core.Path.{◌≡◌}
 use Rattle.schedule.specs.Bounded.{total}
 use Rattle.schedule.specs.Plan.{word_in}
-use Rattle.laws.proofs.Steps.{total_next, total-start}
 use Rattle.tables.specs.Loads.{load_from}
-use Rattle.tables.proofs.LoadLaws.{load_bound}
 use Rattle.tables.proofs.figures.usage.Given as goal
 
 abbrev pub invariant-loop-t : goal.invariant-loop-t

@@ -1,8 +1,8 @@
-use Prim.Native.Nat.{ℕ, ◌*◌, ◌≤◌, ◌-◌, ◌^◌}
+use Prim.Native.Nat.{ℕ, ◌*◌, ◌^◌}
 use native.Mathlib.Omega.{arith}
-use mathlib.Core.Path.{◌≡◌, refl, ap, ◌∙◌}
+use mathlib.Core.Path.{refl, ap, ◌∙◌}
 use lib.Dec.{ltb, ltb→lt, lt→ltb}
-use Rattle.laws.proofs.Lowest.{Clear, clear_none, clear-more, found_here, found_none}
+use Rattle.laws.proofs.Lowest.{clear_none, clear-more, found_here, found_none}
 use Rattle.tables.proofs.LoadLaws.{doubled, worth_small}
 use Rattle.tables.proofs.loads.digits.Goals as goal
 

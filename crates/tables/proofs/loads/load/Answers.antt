@@ -1,10 +1,9 @@
-use Prim.Native.Nat.{ℕ, ◌*◌, ◌+◌, ◌≤◌, ◌-◌, ◌^◌, min}
-use Prim.Native.Nat.{ℕ, ◌*◌, ◌+◌, ◌≤◌, ◌-◌, ◌^◌}
+use Prim.Native.Nat.{ℕ, ◌*◌, ◌+◌, ◌^◌, min}
+use Prim.Native.Nat.{ℕ, ◌*◌, ◌+◌, ◌^◌}
 use native.Mathlib.Omega.{arith}
 use mathlib.Core.Path.{◌≡◌, refl, sym, ap, ap₂, ◌∙◌}
 use lib.Bits.{bit_and}
 use lib.ListN.{get_or}
-use borrow.Author.Rules.{rules}
 use Rattle.schedule.specs.Bounded.{ones, total}
 use Rattle.laws.proofs.Steps.{total_next, total-start}
 use Rattle.tables.proofs.LoadLaws.{doubled, worth_small, few-times, by_digits}

@@ -1,15 +1,11 @@
 -- `tables::loads::load` meets its contract: the sum is that of the digits passed.
 -- Assumes nothing.
-use Prim.Native.Nat.{ℕ, ◌*◌, ◌+◌, ◌≤◌, ◌-◌, ◌^◌, min}
-use Prim.Native.Nat.{ℕ, ◌*◌, ◌+◌, ◌≤◌, ◌-◌, ◌^◌}
-use native.Mathlib.Omega.{arith}
-use mathlib.Core.Path.{◌≡◌, refl, sym, ap, ap₂, ◌∙◌}
+use Prim.Native.Nat.{◌*◌, ◌+◌, ◌≤◌, ◌-◌, ◌^◌}
+use Prim.Native.Nat.{◌*◌, ◌+◌, ◌≤◌, ◌-◌, ◌^◌}
+use mathlib.Core.Path.{◌≡◌}
 use lib.Bits.{bit_and}
 use lib.ListN.{get_or}
-use borrow.Author.Rules.{rules}
 use Rattle.schedule.specs.Bounded.{ones, total}
-use Rattle.laws.proofs.Steps.{total_next, total-start}
-use Rattle.tables.proofs.LoadLaws.{doubled, worth_small, few-times, by_digits}
 use Rattle.tables.proofs.loads.load.Given as goal
 
 abbrev pub invariant-loop-j : goal.invariant-loop-j

@@ -1,8 +1,6 @@
-use Prim.Native.Nat.{◌≤◌, ◌-◌}
 use native.Mathlib.Omega.{arith}
 use mathlib.Core.Path.{◌≡◌, sym, ap, ◌∙◌}
 use lib.ListN.{get_or}
-use borrow.Author.Rules.{rules}
 use Rattle.schedule.specs.Bounded.{bit, word_of}
 use Rattle.laws.proofs.WordLaws.{mark_next, word-start}
 use Rattle.tables.proofs.loads.plane.Goals as goal

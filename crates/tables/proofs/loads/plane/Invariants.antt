@@ -1,12 +1,9 @@
 -- `tables::loads::plane` meets its contract: the word holds those with the digit among the activities passed.
 -- Assumes nothing.
 use Prim.Native.Nat.{◌≤◌, ◌-◌}
-use native.Mathlib.Omega.{arith}
-use mathlib.Core.Path.{◌≡◌, sym, ap, ◌∙◌}
+use mathlib.Core.Path.{◌≡◌}
 use lib.ListN.{get_or}
-use borrow.Author.Rules.{rules}
 use Rattle.schedule.specs.Bounded.{bit, word_of}
-use Rattle.laws.proofs.WordLaws.{mark_next, word-start}
 use Rattle.tables.proofs.loads.plane.Given as goal
 
 abbrev pub invariant-loop-a : goal.invariant-loop-a

@@ -1,8 +1,7 @@
-use Prim.Native.Nat.{◌≤◌, ◌-◌, max}
+use Prim.Native.Nat.{max}
 use native.Mathlib.Omega.{arith}
 use mathlib.Core.Path.{◌≡◌, sym, ap, ◌∙◌}
 use lib.ListN.{get_or}
-use borrow.Author.Rules.{rules}
 use Rattle.schedule.specs.Bounded.{greatest}
 use Rattle.laws.proofs.Steps.{greatest_next, greatest-start}
 use Rattle.tables.proofs.loads.widest.Goals as goal

@@ -1,12 +1,9 @@
 -- `tables::loads::widest` meets its contract: the widest of the activities passed.
 -- Assumes nothing.
-use Prim.Native.Nat.{◌≤◌, ◌-◌, max}
-use native.Mathlib.Omega.{arith}
-use mathlib.Core.Path.{◌≡◌, sym, ap, ◌∙◌}
+use Prim.Native.Nat.{◌≤◌, ◌-◌}
+use mathlib.Core.Path.{◌≡◌}
 use lib.ListN.{get_or}
-use borrow.Author.Rules.{rules}
 use Rattle.schedule.specs.Bounded.{greatest}
-use Rattle.laws.proofs.Steps.{greatest_next, greatest-start}
 use Rattle.tables.proofs.loads.widest.Given as goal
 
 abbrev pub invariant-loop-a : goal.invariant-loop-a

@@ -1,11 +1,9 @@
-use Prim.Native.Nat.{◌≤◌, ◌-◌}
 use native.Mathlib.Omega.{arith}
 use mathlib.Core.Path.{◌≡◌, ◌∙◌}
-use borrow.Author.Rules.{rules}
 use Rattle.laws.proofs.Ranges.{width_lt}
 use Rattle.schedule.specs.Model.{model}
 use Rattle.tables.specs.Loads.{plane_of, depth_of, widths_of}
-use Rattle.tables.proofs.TableLaws.{FilledTo, filled_none, filled_next}
+use Rattle.tables.proofs.TableLaws.{filled_none, filled_next}
 use Rattle.tables.specs.Columns.{column_of}
 use Rattle.tables.proofs.LoadLaws.{depth_few, depth_is, plane_is, planes_whole}
 use Rattle.tables.proofs.loads.widths_of.Goals as goal

@@ -1,12 +1,9 @@
 -- `tables::ranking::mask` meets its contract: the word holds what comes before among the activities passed.
 -- Assumes nothing.
 use Prim.Native.Nat.{◌≤◌, ◌-◌}
-use native.Mathlib.Omega.{arith}
-use mathlib.Core.Path.{◌≡◌, sym, ap, ◌∙◌}
+use mathlib.Core.Path.{◌≡◌}
 use lib.ListN.{get_or}
-use borrow.Author.Rules.{rules}
 use Rattle.schedule.specs.Bounded.{word_of}
-use Rattle.laws.proofs.WordLaws.{mark_next, word-start}
 use Rattle.tables.specs.Ranking.{ranks}
 use Rattle.tables.proofs.ranking.mask.Given as goal
 

@@ -1,14 +1,12 @@
-use Prim.Native.Nat.{ℕ, ◌≤◌, ◌<◌, ◌-◌, min}
+use Prim.Native.Nat.{ℕ, ◌<◌, min}
 use native.Mathlib.Omega.{arith}
 use mathlib.Core.Path.{◌≡◌, ap, ◌∙◌}
 use mathlib.Core.List.{List}
 use lib.ListN.{get_or}
-use borrow.Author.Rules.{rules}
-use Rattle.schedule.specs.Bounded.{word_of}
 use Rattle.schedule.specs.Model.{model, priority_of}
 use Rattle.tables.specs.Columns.{column_of}
-use Rattle.tables.specs.Ranking.{ranks, ranking_of}
-use Rattle.tables.proofs.TableLaws.{Filled, filled_none, filled_next, filled-whole, by_at, by_ext, among_first}
+use Rattle.tables.specs.Ranking.{ranking_of}
+use Rattle.tables.proofs.TableLaws.{filled_none, filled_next, filled-whole, by_at, by_ext, among_first}
 use Rattle.tables.proofs.RankLaws.{ranks-same}
 use Rattle.tables.proofs.ranking.masks.Goals as goal
 

@@ -1,17 +1,12 @@
 -- `tables::ranking::masks` meets its contract: the words passed are filled in, and the priorities are the model's.
 -- Assumes nothing.
-use Prim.Native.Nat.{ℕ, ◌≤◌, ◌<◌, ◌-◌, min}
-use native.Mathlib.Omega.{arith}
-use mathlib.Core.Path.{◌≡◌, ap, ◌∙◌}
-use mathlib.Core.List.{List}
+use Prim.Native.Nat.{◌≤◌, ◌-◌, min}
+use mathlib.Core.Path.{◌≡◌}
 use lib.ListN.{get_or}
-use borrow.Author.Rules.{rules}
 use Rattle.schedule.specs.Bounded.{word_of}
-use Rattle.schedule.specs.Model.{model, priority_of}
-use Rattle.tables.specs.Columns.{column_of}
-use Rattle.tables.specs.Ranking.{ranks, ranking_of}
-use Rattle.tables.proofs.TableLaws.{Filled, filled_none, filled_next, filled-whole, by_at, by_ext, among_first}
-use Rattle.tables.proofs.RankLaws.{ranks-same}
+use Rattle.schedule.specs.Model.{model}
+use Rattle.tables.specs.Ranking.{ranks}
+use Rattle.tables.proofs.TableLaws.{Filled}
 use Rattle.tables.proofs.ranking.masks.Given as goal
 
 abbrev pub invariant-loop-number : goal.invariant-loop-number

@@ -3,7 +3,6 @@
 use mathlib.Core.Path.{sym}
 use lib.IntN.{pos}
 use lib.ListN.{get_or-eq_default}
-use borrow.Author.Rules.{rules}
 use Rattle.text.proofs.late.figure_at.Goals as goal
 
 pub returns-else-i-rows : goal.returns-else-i-rows

@@ -1,15 +1,11 @@
 -- `text::late::lines_length` meets its contract. The loop's invariant: n is the length of the lines of the activities passed, at
 -- most 23 for each. The measure is what is left of them.
 -- Assumes nothing.
-use Prim.Native.Nat.{ℕ, ◌-◌, ◌*◌, ◌≤◌}
-use native.Mathlib.Omega.{arith}
-use borrow.Author.Rules.{rules}
-use mathlib.Core.Path.{◌≡◌, ap, ◌∙◌}
+use Prim.Native.Nat.{◌-◌, ◌*◌, ◌≤◌}
+use mathlib.Core.Path.{◌≡◌}
 use lib.ListN.{length}
 use Rattle.schedule.specs.Bounded.{chain}
 use Rattle.text.specs.Rows.{late_text}
-use Rattle.text.proofs.TextLaws.{chain-none}
-use Rattle.text.proofs.LateLaws.{length_next}
 use Rattle.text.proofs.late.lines_length.Given as goal
 
 abbrev pub invariant-loop-a : goal.invariant-loop-a

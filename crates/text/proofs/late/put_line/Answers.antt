@@ -1,7 +1,6 @@
 -- `text::late::put_line` meets its contract: the activity, and its row.
 -- Assumes nothing.
 use native.Mathlib.Omega.{arith}
-use borrow.Author.Rules.{rules}
 use Rattle.text.specs.Rows.{row_line}
 use Rattle.text.proofs.AppendLaws.{appended_both}
 use Rattle.text.proofs.TextLaws.{length-number}

@@ -1,10 +1,8 @@
-use Prim.Native.Nat.{ℕ, ◌-◌, ◌≤◌}
+use Prim.Native.Nat.{ℕ}
 use native.Mathlib.Omega.{arith}
-use mathlib.Core.Path.{◌≡◌, ap}
+use mathlib.Core.Path.{ap}
 use lib.ListN.{length}
-use borrow.Author.Rules.{rules}
 use Rattle.schedule.specs.Bounded.{chain}
-use Rattle.text.specs.Appended.{Appended}
 use Rattle.text.specs.Rows.{late_text}
 use Rattle.text.proofs.AppendLaws.{appended_none, appended_both}
 use Rattle.text.proofs.TextLaws.{chain-none, chain_most}

@@ -1,17 +1,12 @@
 -- `text::late::put_lines` meets its contract. The loop's invariant: the lines of the activities passed are appended. The measure
 -- is what is left of them.
 -- Assumes nothing.
-use Prim.Native.Nat.{ℕ, ◌-◌, ◌≤◌}
-use native.Mathlib.Omega.{arith}
-use mathlib.Core.Path.{◌≡◌, ap}
+use Prim.Native.Nat.{◌-◌, ◌≤◌}
+use mathlib.Core.Path.{◌≡◌}
 use lib.ListN.{length}
-use borrow.Author.Rules.{rules}
 use Rattle.schedule.specs.Bounded.{chain}
 use Rattle.text.specs.Appended.{Appended}
 use Rattle.text.specs.Rows.{late_text}
-use Rattle.text.proofs.AppendLaws.{appended_none, appended_both}
-use Rattle.text.proofs.TextLaws.{chain-none, chain_most}
-use Rattle.text.proofs.LateLaws.{late_text_is, lines_next}
 use Rattle.text.proofs.late.put_lines.Given as goal
 
 abbrev pub invariant-loop-a : goal.invariant-loop-a

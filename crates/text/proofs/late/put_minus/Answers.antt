@@ -1,6 +1,5 @@
 -- `text::late::put_minus` meets its contract: one byte, or none.
 -- Assumes nothing.
-use borrow.Author.Rules.{rules}
 use Rattle.text.specs.Rows.{minus}
 use Rattle.text.proofs.AppendLaws.{appended_none}
 use Rattle.text.proofs.late.put_minus.Goals as goal

@@ -3,7 +3,6 @@
 use native.Mathlib.Omega.{arith}
 use mathlib.Core.Path.{ap}
 use lib.ListN.{length}
-use borrow.Author.Rules.{rules}
 use Rattle.text.proofs.AppendLaws.{appended_both}
 use Rattle.text.proofs.LateLaws.{dash-end, figure-end, length-figure}
 use Rattle.text.proofs.late.put_row.Goals as goal

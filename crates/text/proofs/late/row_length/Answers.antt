@@ -3,7 +3,6 @@
 use native.Mathlib.Omega.{arith}
 use mathlib.Core.Path.{ap}
 use lib.ListN.{length}
-use borrow.Author.Rules.{rules}
 use Rattle.text.proofs.TextLaws.{length-number}
 use Rattle.text.proofs.LateLaws.{dash-end, length-figure}
 use Rattle.text.proofs.late.row_length.Goals as goal

@@ -1,6 +1,5 @@
 -- `text::late::row_of` meets its contract: the dash, the sign and the size, from the figure's bits.
 -- Assumes nothing.
-use borrow.Author.Rules.{rules}
 use Rattle.text.proofs.FigureLaws.{row_is}
 use Rattle.text.proofs.late.row_of.Goals as goal
 

@@ -3,7 +3,6 @@
 use native.Mathlib.Omega.{arith}
 use mathlib.Core.Path.{refl}
 use borrow.Author.Tests.{eq-eqb, ne_eqb}
-use borrow.Author.Rules.{rules}
 use Rattle.records.proofs.model.page.activity_at.Goals as goal
 
 pub returns-then-version-eq1 : goal.returns-then-version-eq1
@@ -16,14 +15,14 @@ pub returns-then-version-eq2 : goal.returns-then-version-eq2
 returns-then-version-eq2 c =
     let first = c.thread_at-first.ensures in
     record {
-  value = rw (← first.value, ne_eqb _ _ c.if-version-eq1.false, eq-eqb _ _ c.if-version-eq2.true) refl;
-  most = omega (arith, first.most);
-}
+      value = rw (← first.value, ne_eqb _ _ c.if-version-eq1.false, eq-eqb _ _ c.if-version-eq2.true) refl;
+      most = omega (arith, first.most);
+    }
 
 pub returns-else-version-eq2 : goal.returns-else-version-eq2
 returns-else-version-eq2 c =
     let first = c.thread_at-first.ensures in
     record {
-  value = rw (← first.value, ne_eqb _ _ c.if-version-eq1.false, ne_eqb _ _ c.if-version-eq2.false) refl;
-  most = omega (arith, first.most);
-}
+      value = rw (← first.value, ne_eqb _ _ c.if-version-eq1.false, ne_eqb _ _ c.if-version-eq2.false) refl;
+      most = omega (arith, first.most);
+    }

@@ -1,6 +1,5 @@
 -- `model::page::activity_place` meets its contract: the place by the version and the threads that were read.
 -- Assumes nothing.
-use borrow.Author.Rules.{rules}
 use Rattle.records.proofs.model.page.activity_place.Goals as goal
 
 pub returns : goal.returns

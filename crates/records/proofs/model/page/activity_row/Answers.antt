@@ -2,7 +2,6 @@
 -- Assumes nothing.
 use Rattle.schedule.specs.Model.{page}
 use Rattle.records.specs.Rows.{activity_row_of, activity_fields}
-use borrow.Author.Rules.{rules}
 use Rattle.records.proofs.model.page.activity_row.Goals as goal
 
 pub returns-then-at-s : goal.returns-then-at-s

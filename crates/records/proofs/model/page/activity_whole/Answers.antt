@@ -2,7 +2,6 @@
 -- Assumes nothing.
 use mathlib.Core.Path.{refl}
 use Rattle.records.proofs.RowFields.{activity_read}
-use borrow.Author.Rules.{rules}
 use Rattle.records.proofs.model.page.activity_whole.Goals as goal
 
 pub returns : goal.returns

@@ -1,6 +1,5 @@
 -- `model::page::counts` meets its contract: the fields read are those of the definition.
 -- Assumes nothing.
-use borrow.Author.Rules.{rules}
 use Rattle.records.specs.Rows.{sizes_of}
 use Rattle.schedule.specs.Model.{page}
 use Rattle.records.proofs.model.page.counts.Goals as goal

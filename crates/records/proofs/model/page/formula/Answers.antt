@@ -1,6 +1,5 @@
 -- `model::page::formula` meets its contract: where one more row would begin.
 -- Assumes nothing.
-use borrow.Author.Rules.{rules}
 use Rattle.records.proofs.model.page.formula.Goals as goal
 
 pub returns : goal.returns

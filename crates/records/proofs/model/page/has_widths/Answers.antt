@@ -1,7 +1,6 @@
 -- `model::page::has_widths` meets its contract, version by version.
 -- Assumes nothing.
 use borrow.Author.Tests.{eq-eqb, ne_eqb}
-use borrow.Author.Rules.{rules}
 use Rattle.records.proofs.model.page.has_widths.Goals as goal
 
 pub returns-then-version-ne1 : goal.returns-then-version-ne1

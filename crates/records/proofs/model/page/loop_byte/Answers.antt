@@ -3,7 +3,6 @@
 use mathlib.Core.Bool.{true, false}
 use mathlib.Core.Path.{◌≡◌, sym, ◌∙◌}
 use borrow.Author.Tests.{not-false, not-true}
-use borrow.Author.Rules.{rules}
 use Rattle.schedule.specs.Model.{page}
 use Rattle.records.specs.Rows.{oldest}
 use Rattle.records.proofs.model.page.loop_byte.Goals as goal

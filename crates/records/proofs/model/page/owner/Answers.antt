@@ -1,6 +1,5 @@
 -- `model::page::owner` meets its contract: the first byte of the row.
 -- Assumes nothing.
-use borrow.Author.Rules.{rules}
 use Rattle.schedule.specs.Model.{page}
 use Rattle.records.proofs.model.page.owner.Goals as goal
 

@@ -2,7 +2,6 @@
 -- Assumes nothing.
 use borrow.Author.Tests.{eq-eqb, ne_eqb}
 use Rattle.schedule.specs.Model.{page}
-use borrow.Author.Rules.{rules}
 use Rattle.records.proofs.model.page.rounds.Goals as goal
 
 pub returns-then-version-eq1 : goal.returns-then-version-eq1

@@ -1,6 +1,5 @@
 -- `model::page::thread_place` meets its contract: the place by the version that was read.
 -- Assumes nothing.
-use borrow.Author.Rules.{rules}
 use Rattle.records.proofs.model.page.thread_place.Goals as goal
 
 pub returns : goal.returns

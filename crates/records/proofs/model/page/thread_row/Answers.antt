@@ -2,7 +2,6 @@
 -- Assumes nothing.
 use Rattle.schedule.specs.Model.{page}
 use Rattle.records.specs.Rows.{thread_row_of}
-use borrow.Author.Rules.{rules}
 use Rattle.records.proofs.model.page.thread_row.Goals as goal
 
 pub returns : goal.returns

@@ -1,7 +1,6 @@
 -- `model::page::thread_whole` meets its contract: the bytes read at once are the fields.
 -- Assumes nothing.
 use Rattle.records.proofs.RowFields.{thread_read}
-use borrow.Author.Rules.{rules}
 use Rattle.records.proofs.model.page.thread_whole.Goals as goal
 
 pub returns : goal.returns

@@ -1,7 +1,6 @@
 -- `model::page::threads` meets its contract: the field read is that of the definition.
 -- Assumes nothing.
 use Rattle.schedule.specs.Model.{page}
-use borrow.Author.Rules.{rules}
 use Rattle.records.proofs.model.page.threads.Goals as goal
 
 pub returns : goal.returns

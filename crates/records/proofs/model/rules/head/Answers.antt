@@ -6,7 +6,6 @@ use mathlib.Core.Path.{sym, ap, ◌∙◌}
 use Rattle.records.specs.Reads.{pass_numbers, pick}
 use Rattle.records.proofs.Forms.{model-head, rounds-told}
 use Rattle.records.proofs.Reading.{pass_refused, pass_holds}
-use borrow.Author.Rules.{rules}
 use Rattle.records.proofs.model.rules.head.Goals as goal
 
 pub returns-in-Refused : goal.returns-in-Refused

@@ -2,7 +2,6 @@
 -- Assumes nothing.
 use Rattle.records.specs.Rows.{limits_hold}
 use Rattle.records.proofs.Reading.{told_no, told-yes}
-use borrow.Author.Rules.{rules}
 use Rattle.records.proofs.model.rules.limits_hold.Goals as goal
 
 pub returns-then-not-within : goal.returns-then-not-within

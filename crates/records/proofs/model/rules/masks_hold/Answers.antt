@@ -2,7 +2,6 @@
 -- Assumes nothing.
 use Rattle.records.proofs.RowTests.{masks_parts}
 use Rattle.records.proofs.Reading.{told_no, told-yes}
-use borrow.Author.Rules.{rules}
 use Rattle.records.proofs.model.rules.masks_hold.Goals as goal
 
 pub returns-then-not-none_from : goal.returns-then-not-none_from

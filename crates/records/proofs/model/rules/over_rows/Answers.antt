@@ -1,11 +1,9 @@
-use Prim.Native.Nat.{◌-◌, ◌≤◌}
 use native.Mathlib.Omega.{arith}
 use mathlib.Core.Path.{sym}
-use Rattle.schedule.specs.Model.{page, row_rule}
-use Rattle.laws.proofs.RowLaws.{ClearTo, clear-start}
+use Rattle.schedule.specs.Model.{page}
+use Rattle.laws.proofs.RowLaws.{clear-start}
 use Rattle.records.proofs.Reading.{row-refused, row-taken, rows_end}
 use Rattle.records.proofs.RowOrder.{row-columns}
-use borrow.Author.Rules.{rules}
 use Rattle.records.proofs.model.rules.over_rows.Goals as goal
 
 pub returns-then-settled : goal.returns-then-settled

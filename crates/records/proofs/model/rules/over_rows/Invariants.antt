@@ -2,13 +2,8 @@
 -- rows.
 -- Assumes nothing.
 use Prim.Native.Nat.{◌-◌, ◌≤◌}
-use native.Mathlib.Omega.{arith}
-use mathlib.Core.Path.{sym}
 use Rattle.schedule.specs.Model.{page, row_rule}
-use Rattle.laws.proofs.RowLaws.{ClearTo, clear-start}
-use Rattle.records.proofs.Reading.{row-refused, row-taken, rows_end}
-use Rattle.records.proofs.RowOrder.{row-columns}
-use borrow.Author.Rules.{rules}
+use Rattle.laws.proofs.RowLaws.{ClearTo}
 use Rattle.records.proofs.model.rules.over_rows.Given as goal
 
 abbrev pub invariant-loop-number : goal.invariant-loop-number

@@ -2,7 +2,6 @@
 -- Assumes nothing.
 use borrow.Author.Tests.{lt-ltb, le-ltb, eq-eqb, ne_eqb}
 use Rattle.records.specs.Rows.{period_holds}
-use borrow.Author.Rules.{rules}
 use Rattle.records.proofs.model.rules.period_holds.Goals as goal
 
 pub returns-then-rounds-le1 : goal.returns-then-rounds-le1

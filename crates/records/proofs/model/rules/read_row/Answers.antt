@@ -5,7 +5,6 @@ use Rattle.records.specs.declared.model.Sizes.{Sizes}
 use Rattle.records.specs.Rows.{sizes_of}
 use Rattle.records.proofs.RowTests.{thread_answered, period_answered, activity_answered, loop_answered, width_answered}
 use Rattle.records.proofs.RowTests.{masks_answered}
-use borrow.Author.Rules.{rules}
 use Rattle.records.proofs.model.rules.read_row.Goals as goal
 
 pub returns-in-Thread : goal.returns-in-Thread

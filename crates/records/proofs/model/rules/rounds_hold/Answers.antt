@@ -3,7 +3,6 @@
 use borrow.Author.Tests.{le-leb, lt-leb}
 use Rattle.records.specs.Rows.{rounds_hold}
 use Rattle.records.proofs.Reading.{told_no, told-yes}
-use borrow.Author.Rules.{rules}
 use Rattle.records.proofs.model.rules.rounds_hold.Goals as goal
 
 pub returns-then-not-within : goal.returns-then-not-within

@@ -1,12 +1,8 @@
-use Prim.Native.Nat.{◌-◌, ◌≤◌}
 use native.Mathlib.Omega.{arith}
-use mathlib.Core.Path.{◌≡◌, refl, sym, ◌∙◌}
-use lib.ListN.{length}
-use Rattle.schedule.specs.Rule.{first_break}
-use Rattle.schedule.specs.Model.{page, row_rule, row_order, row_rules}
+use mathlib.Core.Path.{refl, sym, ◌∙◌}
+use Rattle.schedule.specs.Model.{page, row_rule, row_order}
 use Rattle.schedule.specs.declared.RowRule.{RowRule}
-use Rattle.records.proofs.Orders.{untried, order_stops, order_goes_on, order-ends}
-use borrow.Author.Rules.{rules}
+use Rattle.records.proofs.Orders.{order_stops, order_goes_on, order-ends}
 use Rattle.records.proofs.model.rules.row_rules.Goals as goal
 
 pub loop-k-init : goal.loop-k-init

@@ -1,14 +1,11 @@
 -- `model::rules::row_rules` meets its contract: the rules tried hold, and those that are left decide.
 -- Assumes nothing.
 use Prim.Native.Nat.{◌-◌, ◌≤◌}
-use native.Mathlib.Omega.{arith}
-use mathlib.Core.Path.{◌≡◌, refl, sym, ◌∙◌}
+use mathlib.Core.Path.{◌≡◌}
 use lib.ListN.{length}
 use Rattle.schedule.specs.Rule.{first_break}
 use Rattle.schedule.specs.Model.{page, row_rule, row_order, row_rules}
-use Rattle.schedule.specs.declared.RowRule.{RowRule}
-use Rattle.records.proofs.Orders.{untried, order_stops, order_goes_on, order-ends}
-use borrow.Author.Rules.{rules}
+use Rattle.records.proofs.Orders.{untried}
 use Rattle.records.proofs.model.rules.row_rules.Given as goal
 
 abbrev pub invariant-loop-k : goal.invariant-loop-k

@@ -4,7 +4,6 @@ use mathlib.Core.Path.{ap}
 use Rattle.schedule.specs.Opened.{form_rules}
 use Rattle.records.specs.declared.model.Sizes.{Sizes}
 use Rattle.records.specs.Rows.{sizes_of}
-use borrow.Author.Rules.{rules}
 use Rattle.records.proofs.model.rules.rows_of.Goals as goal
 
 pub returns-in-Thread : goal.returns-in-Thread

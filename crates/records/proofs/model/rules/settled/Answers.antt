@@ -4,7 +4,6 @@ use mathlib.Core.Path.{ap}
 use Rattle.records.specs.declared.model.Sizes.{Sizes}
 use Rattle.records.specs.Rows.{sizes_of}
 use Rattle.records.proofs.Settled.{period_settled, loop_settled, width_settled}
-use borrow.Author.Rules.{rules}
 use Rattle.records.proofs.model.rules.settled.Goals as goal
 
 pub returns-in-Thread : goal.returns-in-Thread

@@ -1,6 +1,5 @@
 -- `rows::RowRead::pass` meets its contract, by cases on the answer.
 -- Assumes nothing.
-use borrow.Author.Rules.{rules}
 use Rattle.records.proofs.rows.RowRead.pass.Goals as goal
 
 pub returns-in-Row : goal.returns-in-Row
