@@ -81,10 +81,10 @@ class Fed:
 
     def __init__(self, name):
         self.name = name
-        self.path = os.path.join(".", sys.argv[1] if len(sys.argv) > 1 else "target/bin/" + name)
+        self.path = os.path.join(".", sys.argv[1] if len(sys.argv) > 1 else "crates/%s/out/%s" % (name, name))
         self.done = 0
         if not os.path.isfile(self.path) or not os.access(self.path, os.X_OK):
-            self.fail("no program %s; rt check %s builds it" % (self.path, name))
+            self.fail("no program %s; rt ci builds it, and so does rt run in crates/%s" % (self.path, name))
 
     def fail(self, message):
         sys.exit("check-%s: %s" % (self.name, message))

@@ -7,7 +7,6 @@ use Rattle.laws.proofs.Formed.{model-says}
 use Rattle.records.specs.declared.Pass.{Pass}
 use Rattle.records.specs.Reads.{pass_numbers}
 use Rattle.checks.proofs.CheckLaws.{model_stops, model-formed, plan_stops, rules-answer}
-use borrow.Author.Rules.{rules}
 use Rattle.checks.proofs.check.Goals as goal
 
 pub returns-in-Refused : goal.returns-in-Refused

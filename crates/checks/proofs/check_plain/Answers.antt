@@ -1,6 +1,5 @@
 -- `checks::check_plain` meets its contract: the check without 30 and 31. Assumes nothing.
 use Rattle.schedule.specs.Answers.{plain_verdict}
-use borrow.Author.Rules.{rules}
 use Rattle.checks.proofs.check_plain.Goals as goal
 
 pub returns : goal.returns

@@ -1,6 +1,5 @@
 -- `checks::check_strict` meets its contract: the check with 30 and 31. Assumes nothing.
 use Rattle.schedule.specs.Answers.{strict_verdict}
-use borrow.Author.Rules.{rules}
 use Rattle.checks.proofs.check_strict.Goals as goal
 
 pub returns : goal.returns

@@ -1,6 +1,6 @@
-use Prim.Native.Nat.{◌≤◌, ◌<◌, ◌-◌}
+use Prim.Native.Nat.{◌<◌}
 use native.Mathlib.Omega.{arith}
-use mathlib.Core.Path.{◌≡◌, sym, ap, ◌∙◌}
+use mathlib.Core.Path.{sym, ap, ◌∙◌}
 use lib.ListN.{length}
 use Rattle.schedule.specs.declared.ActivityRule.{ActivityRule}
 use Rattle.schedule.specs.declared.RuleRefusal.{RuleRefusal}
@@ -8,11 +8,9 @@ use Rattle.schedule.specs.Rule.{Rule, break, first_break}
 use Rattle.schedule.specs.Model.{model}
 use Rattle.schedule.specs.Plan.{plan}
 use Rattle.schedule.specs.Checks.{rule_of}
-use Rattle.tables.specs.Loads.{widths_of}
-use Rattle.records.proofs.Orders.{untried, order_stops, order_goes_on, order-ends}
-use Rattle.checks.specs.Rules.{Counted, order_of, grid_rules}
+use Rattle.records.proofs.Orders.{order_stops, order_goes_on, order-ends}
+use Rattle.checks.specs.Rules.{order_of}
 use Rattle.checks.proofs.RuleOrder.{in_order, no_longer, same_place}
-use borrow.Author.Rules.{rules}
 use Rattle.checks.proofs.grid_rules.Goals as goal
 
 -- what a place past the order's end would hold

@@ -1,19 +1,14 @@
 -- `checks::grid_rules` meets its contract: the rules tried hold, and those that are left decide. Assumes nothing.
-use Prim.Native.Nat.{◌≤◌, ◌<◌, ◌-◌}
-use native.Mathlib.Omega.{arith}
-use mathlib.Core.Path.{◌≡◌, sym, ap, ◌∙◌}
+use Prim.Native.Nat.{◌≤◌, ◌-◌}
+use mathlib.Core.Path.{◌≡◌}
 use lib.ListN.{length}
-use Rattle.schedule.specs.declared.ActivityRule.{ActivityRule}
-use Rattle.schedule.specs.declared.RuleRefusal.{RuleRefusal}
-use Rattle.schedule.specs.Rule.{Rule, break, first_break}
+use Rattle.schedule.specs.Rule.{first_break}
 use Rattle.schedule.specs.Model.{model}
 use Rattle.schedule.specs.Plan.{plan}
 use Rattle.schedule.specs.Checks.{rule_of}
 use Rattle.tables.specs.Loads.{widths_of}
-use Rattle.records.proofs.Orders.{untried, order_stops, order_goes_on, order-ends}
+use Rattle.records.proofs.Orders.{untried}
 use Rattle.checks.specs.Rules.{Counted, order_of, grid_rules}
-use Rattle.checks.proofs.RuleOrder.{in_order, no_longer, same_place}
-use borrow.Author.Rules.{rules}
 use Rattle.checks.proofs.grid_rules.Given as goal
 
 abbrev pub invariant-loop-k : goal.invariant-loop-k

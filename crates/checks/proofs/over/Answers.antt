@@ -1,5 +1,4 @@
 -- `checks::over` meets its contract: the rule's own loop tries it. Assumes nothing.
-use borrow.Author.Rules.{rules}
 use Rattle.checks.proofs.over.Goals as goal
 
 pub returns-in-Activity : goal.returns-in-Activity

@@ -1,13 +1,9 @@
 -- `machine::order` meets its contract: each activity passed stands at its place.
 -- Assumes nothing.
 use Prim.Native.Nat.{◌≤◌, ◌-◌}
-use native.Mathlib.Omega.{arith}
-use mathlib.Core.Path.{◌≡◌, subst, ap}
-use borrow.Author.Rules.{rules}
+use mathlib.Core.Path.{◌≡◌}
 use Rattle.schedule.specs.Model.{model}
-use Rattle.records.specs.declared.model.Sizes.{Sizes}
-use Rattle.records.specs.Rows.{sizes_of}
-use Rattle.machine.proofs.OrderLaws.{ones_place, Placed, placed-none, placed_next, placed-all}
+use Rattle.machine.proofs.OrderLaws.{Placed}
 use Rattle.machine.proofs.order.Given as goal
 
 abbrev pub invariant-loop-a : goal.invariant-loop-a

@@ -5,7 +5,6 @@ use mathlib.Core.Path.{refl, ap}
 use Rattle.records.specs.Rows.{sizes_of}
 use Rattle.records.specs.declared.model.Sizes.{Sizes}
 use Rattle.machine.proofs.PlayLaws.{finished_stopped, played, unplayed}
-use borrow.Author.Rules.{rules}
 use Rattle.machine.proofs.play.Goals as goal
 
 pub returns-then-sizes-gt32 : goal.returns-then-sizes-gt32
@@ -24,13 +23,12 @@ play_ticks-last-requires c = c.tabulate-tables.ensures
 
 pub judge-judged-requires : goal.judge-judged-requires
 unfolding sizes_of
-judge-judged-requires c =
-    (
-      c.tabulate-tables.ensures,
-      finished_stopped _ _ _ _ _ _
-          (omega (arith, c.if-sizes-gt32.false, ap (λ (r : Sizes). r.activities) c.counts-sizes.ensures))
-          c.play_ticks-last.ensures,
-    )
+judge-judged-requires c = (
+  c.tabulate-tables.ensures,
+  finished_stopped _ _ _ _ _ _
+      (omega (arith, c.if-sizes-gt32.false, ap (λ (r : Sizes). r.activities) c.counts-sizes.ensures))
+      c.play_ticks-last.ensures,
+)
 
 pub returns : goal.returns
 unfolding sizes_of

@@ -1,15 +1,10 @@
 use native.Mathlib.Omega.{arith}
-use Prim.Native.Nat.{◌≤◌, ◌<◌, ◌-◌}
-use mathlib.Core.Path.{◌≡◌, refl, ap}
-use Rattle.schedule.specs.Choice.{choice}
-use Rattle.schedule.specs.Model.{model}
+use mathlib.Core.Path.{refl, ap}
 use Rattle.records.specs.Rows.{sizes_of}
 use Rattle.records.specs.declared.model.Sizes.{Sizes}
 use Rattle.tables.specs.Columns.{column_of}
-use Rattle.machine.specs.Stretches.{Lasts}
 use Rattle.machine.proofs.StretchLaws.{lasts_unknown, lasts_next}
-use Rattle.machine.proofs.PlayLaws.{Running, running_start, running_next, running_end, running_length}
-use borrow.Author.Rules.{rules}
+use Rattle.machine.proofs.PlayLaws.{running_start, running_next, running_end, running_length}
 use Rattle.machine.proofs.play_ticks.Goals as goal
 
 pub loop-t-init : goal.loop-t-init

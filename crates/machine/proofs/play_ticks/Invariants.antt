@@ -1,17 +1,11 @@
 -- `machine::play_ticks` meets its contract: at each tick the tables hold the machine's state, and the words written are its words.
 -- Assumes nothing.
-use native.Mathlib.Omega.{arith}
 use Prim.Native.Nat.{◌≤◌, ◌<◌, ◌-◌}
-use mathlib.Core.Path.{◌≡◌, refl, ap}
+use mathlib.Core.Path.{◌≡◌}
 use Rattle.schedule.specs.Choice.{choice}
 use Rattle.schedule.specs.Model.{model}
-use Rattle.records.specs.Rows.{sizes_of}
-use Rattle.records.specs.declared.model.Sizes.{Sizes}
-use Rattle.tables.specs.Columns.{column_of}
 use Rattle.machine.specs.Stretches.{Lasts}
-use Rattle.machine.proofs.StretchLaws.{lasts_unknown, lasts_next}
-use Rattle.machine.proofs.PlayLaws.{Running, running_start, running_next, running_end, running_length}
-use borrow.Author.Rules.{rules}
+use Rattle.machine.proofs.PlayLaws.{Running}
 use Rattle.machine.proofs.play_ticks.Given as goal
 
 abbrev pub invariant-loop-t : goal.invariant-loop-t

@@ -3,7 +3,6 @@
 use Rattle.schedule.specs.Model.{model}
 use Rattle.tables.specs.Columns.{column_of}
 use Rattle.tables.proofs.TableLaws.{by_table}
-use borrow.Author.Rules.{rules}
 use Rattle.machine.proofs.tabulate.Goals as goal
 
 pub returns : goal.returns

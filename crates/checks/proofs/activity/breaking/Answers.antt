@@ -12,7 +12,6 @@ use Rattle.records.specs.declared.plan.Span.{Span}
 use Rattle.records.specs.Rows.{sizes_of, activity_row_of, span_of}
 use Rattle.laws.proofs.Steps.{zeros_at}
 use Rattle.checks.proofs.ActivityLaws.{flagged, count-test, eligible-test, temporal_mask, data_mask}
-use borrow.Author.Rules.{rules}
 use Rattle.checks.proofs.activity.breaking.Goals as goal
 
 pub window_holds-requires : goal.window_holds-requires

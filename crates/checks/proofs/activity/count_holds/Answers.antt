@@ -3,7 +3,6 @@ use mathlib.Core.Path.{ap}
 use borrow.Author.Tests.{lt-leb, le-leb}
 use Rattle.records.specs.declared.model.ActivityRow.{ActivityRow}
 use Rattle.records.specs.Rows.{activity_row_of}
-use borrow.Author.Rules.{rules}
 use Rattle.checks.proofs.activity.count_holds.Goals as goal
 
 pub returns-then-count-row : goal.returns-then-count-row

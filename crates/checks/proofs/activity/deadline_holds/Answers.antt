@@ -7,7 +7,6 @@ use Rattle.schedule.specs.Timing.{on_time, in_time}
 use Rattle.records.specs.declared.plan.Span.{Span}
 use Rattle.records.specs.declared.plan.Timing.{Timing}
 use Rattle.records.specs.Rows.{timing, span_of}
-use borrow.Author.Rules.{rules}
 use Rattle.checks.proofs.activity.deadline_holds.Goals as goal
 
 pub returns : goal.returns

@@ -1,12 +1,11 @@
 use native.Mathlib.Omega.{arith}
-use Prim.Native.Nat.{ℕ, ◌+◌, ◌≤◌, ◌-◌}
+use Prim.Native.Nat.{ℕ, ◌+◌}
 use mathlib.Core.Bool.{Bool, not}
 use mathlib.Core.Path.{◌≡◌, sym, ap, ap₂, ◌∙◌}
 use lib.Dec.{leb}
 use Rattle.schedule.specs.Bounded.{◌⇒◌}
 use Rattle.laws.proofs.WordLaws.{mark_next, word-start}
 use Rattle.checks.specs.Rules.{early_from}
-use borrow.Author.Rules.{rules}
 use Rattle.checks.proofs.activity.early_mask.Goals as goal
 
 pub loop-number-init : goal.loop-number-init

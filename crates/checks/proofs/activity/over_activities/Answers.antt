@@ -1,4 +1,4 @@
-use Prim.Native.Nat.{ℕ, ◌≤◌, ◌-◌}
+use Prim.Native.Nat.{ℕ}
 use native.Mathlib.Omega.{arith}
 use mathlib.Core.Option.{some}
 use mathlib.Core.Path.{◌≡◌, sym, subst, ap, ◌∙◌}
@@ -9,10 +9,9 @@ use Rattle.records.specs.declared.model.Sizes.{Sizes}
 use Rattle.records.specs.Rows.{sizes_of}
 use Rattle.laws.proofs.RowLaws.{ClearTo, clear-start, clear_again, clear-end, clear-stop}
 use Rattle.laws.proofs.Sound.{rule-number}
-use Rattle.checks.specs.Rules.{activity_rule, Counted}
+use Rattle.checks.specs.Rules.{activity_rule}
 use Rattle.checks.proofs.ActivityLaws.{activity-shape}
 use Rattle.checks.proofs.MaskRow.{row_stops, row_goes_on}
-use borrow.Author.Rules.{rules}
 use Rattle.checks.proofs.activity.over_activities.Goals as goal
 
 pub loop-number-init : goal.loop-number-init
@@ -22,9 +21,9 @@ loop-number-init c = (omega arith, ap (λ (y : Sizes). y.activities) c.counts-si
 pub breaking-requires : goal.breaking-requires
 breaking-requires c =
     let l = c.loop-number in record {
-  counted = l.invariant.2;
-  a_bound = omega (arith, l.invariant.1, c.loop-number-test.true);
-}
+      counted = l.invariant.2;
+      a_bound = omega (arith, l.invariant.1, c.loop-number-test.true);
+    }
 
 pub returns-then-b-lt32 : goal.returns-then-b-lt32
 returns-then-b-lt32 c =

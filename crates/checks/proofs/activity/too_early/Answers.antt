@@ -1,7 +1,6 @@
 -- `checks::activity::too_early` meets its contract, by its cases. Assumes nothing.
 use mathlib.Core.Bool.{not}
 use mathlib.Core.Path.{ap}
-use borrow.Author.Rules.{rules}
 use Rattle.checks.proofs.activity.too_early.Goals as goal
 
 pub returns-then-precedes : goal.returns-then-precedes

@@ -2,8 +2,6 @@
 use native.Mathlib.Omega.{arith}
 use mathlib.Core.Bool.{not, not-not}
 use mathlib.Core.Path.{ap, ◌∙◌}
-use borrow.Author.Rules.{rules}
-use borrow.Author.Tests.{not-true, not-false}
 use Rattle.checks.proofs.ActivityLaws.{window-row, span_end}
 use Rattle.checks.proofs.activity.window_holds.Goals as goal
 

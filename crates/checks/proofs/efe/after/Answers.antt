@@ -1,5 +1,5 @@
 use native.Mathlib.Omega.{arith}
-use Prim.Native.Nat.{ℕ, ◌+◌, ◌≤◌, ◌-◌, max}
+use Prim.Native.Nat.{ℕ, ◌+◌, max}
 use mathlib.Core.Bool.{cond}
 use mathlib.Core.Path.{◌≡◌, sym, ap₂, ◌∙◌}
 use lib.ListN.{get_or}
@@ -11,7 +11,6 @@ use Rattle.laws.proofs.Steps.{greatest_next, greatest-start}
 use Rattle.checks.specs.Tables as tables
 use Rattle.laws.proofs.Ranges.{delay_lt}
 use Rattle.checks.proofs.EfeTable.{term_reads}
-use borrow.Author.Rules.{rules}
 use Rattle.checks.proofs.efe.after.Goals as goal
 
 pub loop-number-init : goal.loop-number-init

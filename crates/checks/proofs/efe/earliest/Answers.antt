@@ -4,7 +4,6 @@ use mathlib.Core.Path.{ap, ap₂, ◌∙◌}
 use Rattle.schedule.specs.Plan.{plan}
 use Rattle.records.specs.declared.plan.Timing.{Timing}
 use Rattle.records.specs.Rows.{timing}
-use borrow.Author.Rules.{rules}
 use Rattle.checks.proofs.efe.earliest.Goals as goal
 
 pub returns : goal.returns

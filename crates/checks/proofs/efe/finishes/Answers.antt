@@ -1,16 +1,11 @@
-use Prim.Native.Nat.{ℕ, ◌+◌, ◌*◌, ◌≤◌, ◌-◌}
+use Prim.Native.Nat.{◌+◌, ◌*◌}
 use native.Mathlib.Omega.{arith}
-use mathlib.Core.Path.{◌≡◌, ap}
-use lib.ListN.{get_or}
-use Rattle.schedule.specs.Model.{model}
-use Rattle.schedule.specs.Plan.{plan}
+use mathlib.Core.Path.{ap}
 use Rattle.records.specs.declared.model.Sizes.{Sizes}
 use Rattle.records.specs.Rows.{sizes_of}
 use Rattle.laws.proofs.Steps.{zeros_at}
-use Rattle.tables.proofs.TableLaws.{Filled, filled_none, filled_next}
-use Rattle.checks.specs.Tables.{finish_of}
-use Rattle.checks.proofs.EfeTable.{Brief, bytes_brief, entry_next, set_bound}
-use borrow.Author.Rules.{rules}
+use Rattle.tables.proofs.TableLaws.{filled_none, filled_next}
+use Rattle.checks.proofs.EfeTable.{bytes_brief, entry_next, set_bound}
 use Rattle.checks.proofs.efe.finishes.Goals as goal
 
 pub loop-number-init : goal.loop-number-init

@@ -1,17 +1,12 @@
 -- `checks::efe::finishes` meets its contract: the table is right at the activities passed, and small. Assumes nothing.
-use Prim.Native.Nat.{ℕ, ◌+◌, ◌*◌, ◌≤◌, ◌-◌}
-use native.Mathlib.Omega.{arith}
-use mathlib.Core.Path.{◌≡◌, ap}
+use Prim.Native.Nat.{ℕ, ◌*◌, ◌≤◌, ◌-◌}
+use mathlib.Core.Path.{◌≡◌}
 use lib.ListN.{get_or}
 use Rattle.schedule.specs.Model.{model}
 use Rattle.schedule.specs.Plan.{plan}
-use Rattle.records.specs.declared.model.Sizes.{Sizes}
-use Rattle.records.specs.Rows.{sizes_of}
-use Rattle.laws.proofs.Steps.{zeros_at}
-use Rattle.tables.proofs.TableLaws.{Filled, filled_none, filled_next}
+use Rattle.tables.proofs.TableLaws.{Filled}
 use Rattle.checks.specs.Tables.{finish_of}
-use Rattle.checks.proofs.EfeTable.{Brief, bytes_brief, entry_next, set_bound}
-use borrow.Author.Rules.{rules}
+use Rattle.checks.proofs.EfeTable.{Brief}
 use Rattle.checks.proofs.efe.finishes.Given as goal
 
 abbrev pub invariant-loop-number : goal.invariant-loop-number

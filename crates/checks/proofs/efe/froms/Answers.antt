@@ -1,13 +1,12 @@
 use native.Mathlib.Omega.{arith}
-use Prim.Native.Nat.{◌≤◌, ◌-◌, max}
-use mathlib.Core.Path.{◌≡◌, ap, ap₂, ◌∙◌}
+use Prim.Native.Nat.{◌-◌, max}
+use mathlib.Core.Path.{ap, ap₂, ◌∙◌}
 use lib.ListN.{get_or}
 use Rattle.schedule.specs.Model.{model}
 use Rattle.records.specs.declared.model.Sizes.{Sizes}
 use Rattle.records.specs.Rows.{sizes_of}
-use Rattle.tables.proofs.TableLaws.{Filled, filled_none, filled_next}
-use Rattle.checks.specs.Tables.{after, from_of}
-use borrow.Author.Rules.{rules}
+use Rattle.tables.proofs.TableLaws.{filled_none, filled_next}
+use Rattle.checks.specs.Tables.{after}
 use Rattle.checks.proofs.efe.froms.Goals as goal
 
 pub loop-number-init : goal.loop-number-init

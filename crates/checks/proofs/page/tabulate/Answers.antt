@@ -7,7 +7,6 @@ use Rattle.laws.proofs.Ranges.{end_lt}
 use Rattle.tables.specs.Columns.{column_of}
 use Rattle.tables.proofs.TableLaws.{by_table}
 use Rattle.checks.proofs.RuleOrder.{count-table, from-tables}
-use borrow.Author.Rules.{rules}
 use Rattle.checks.proofs.page.tabulate.Goals as goal
 
 pub finishes-finishes-requires : goal.finishes-finishes-requires

@@ -1,5 +1,4 @@
 -- `checks::tick::breaking` meets its contract, rule by rule. Assumes nothing.
-use borrow.Author.Rules.{rules}
 use Rattle.checks.proofs.tick.breaking.Goals as goal
 
 pub returns-in-Cores : goal.returns-in-Cores

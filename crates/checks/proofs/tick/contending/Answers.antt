@@ -1,10 +1,9 @@
 use Prim.Native.Nat.{◌<◌, ◌^◌}
 use mathlib.Core.Path.{subst}
 use native.Mathlib.Omega.{arith}
-use borrow.Author.Rules.{rules}
 use Rattle.bits.proofs.Apart.{lowest_lt, rest_less}
-use Rattle.checks.specs.Ticks.{fits_from, contending_of}
-use Rattle.checks.proofs.WordLoops.{Sifted, sifted_start, sifted_next, sifted_whole}
+use Rattle.checks.specs.Ticks.{contending_of}
+use Rattle.checks.proofs.WordLoops.{sifted_start, sifted_next, sifted_whole}
 use Rattle.checks.proofs.tick.contending.Goals as goal
 
 pub loop-rest-init : goal.loop-rest-init

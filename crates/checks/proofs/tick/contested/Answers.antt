@@ -3,7 +3,6 @@ use Prim.Native.Nat.{ℕ}
 use mathlib.Core.Path.{sym, ap₂, ◌∙◌}
 use lib.Bits.{bit_and}
 use borrow.Author.Tests.{eq-eqb, ne_eqb}
-use borrow.Author.Rules.{rules}
 use Rattle.checks.specs.Ticks.{contending_of, contested_of}
 use Rattle.checks.proofs.TickLaws.{none_contested}
 use Rattle.checks.proofs.tick.contested.Goals as goal

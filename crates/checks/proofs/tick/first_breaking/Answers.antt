@@ -2,7 +2,6 @@
 -- Assumes nothing.
 use Prim.Native.Nat.{ℕ}
 use mathlib.Core.Path.{ap, ◌∙◌}
-use borrow.Author.Rules.{rules}
 use Rattle.schedule.specs.Bounded.{bit, lowest}
 use Rattle.checks.specs.Ticks.{breaking_of}
 use Rattle.checks.proofs.TickLaws.{shown_again}

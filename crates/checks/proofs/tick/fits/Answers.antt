@@ -3,7 +3,6 @@
 use Prim.Native.Nat.{ℕ}
 use mathlib.Core.Path.{ap, ◌∙◌}
 use lib.Dec.{leb}
-use borrow.Author.Rules.{rules}
 use Rattle.tables.specs.Loads.{load_from}
 use Rattle.checks.specs.Ticks.{fits_from}
 use Rattle.checks.proofs.tick.fits.Goals as goal

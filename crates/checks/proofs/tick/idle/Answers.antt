@@ -2,7 +2,6 @@
 use Prim.Native.Nat.{ℕ}
 use mathlib.Core.Path.{sym, ap, ◌∙◌}
 use borrow.Author.Tests.{lt-ltb, le-ltb}
-use borrow.Author.Rules.{rules}
 use Rattle.checks.specs.Ticks.{contending_of, idle_of}
 use Rattle.checks.proofs.TickLaws.{none-idle}
 use Rattle.checks.proofs.tick.idle.Goals as goal

@@ -4,7 +4,6 @@ use mathlib.Core.Path.{sym, subst}
 use Rattle.schedule.specs.Model.{model}
 use Rattle.schedule.specs.declared.TickRule.{TickRule}
 use Rattle.checks.specs.Ticks.{Ranked}
-use borrow.Author.Rules.{rules}
 use Rattle.checks.proofs.tick.outranked_by.Goals as goal
 
 pub returns-in-Cores : goal.returns-in-Cores

@@ -1,13 +1,9 @@
 use native.Mathlib.Omega.{arith}
-use Prim.Native.Nat.{ℕ, ◌^◌, ◌<◌}
-use mathlib.Core.Bool.{◌&&◌, ◌||◌}
-use mathlib.Core.Path.{◌≡◌, refl, ◌∙◌}
+use mathlib.Core.Path.{refl, ◌∙◌}
 use lib.ListN.{get_or}
-use Rattle.schedule.specs.Bounded.{bit}
-use Rattle.checks.specs.Ticks.{any, outranking_of}
+use Rattle.checks.specs.Ticks.{outranking_of}
 use Rattle.bits.proofs.Apart.{lowest_lt, rest_less}
 use Rattle.checks.proofs.WordLoops.{join_next, joined-whole}
-use borrow.Author.Rules.{rules}
 use Rattle.checks.proofs.tick.outranking.Goals as goal
 
 pub loop-rest-init : goal.loop-rest-init

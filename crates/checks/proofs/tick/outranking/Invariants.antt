@@ -1,14 +1,10 @@
 -- `checks::tick::outranking` meets its contract: what is joined and what is left of the word come to the same. Assumes nothing.
-use native.Mathlib.Omega.{arith}
 use Prim.Native.Nat.{ℕ, ◌^◌, ◌<◌}
 use mathlib.Core.Bool.{◌&&◌, ◌||◌}
-use mathlib.Core.Path.{◌≡◌, refl, ◌∙◌}
+use mathlib.Core.Path.{◌≡◌}
 use lib.ListN.{get_or}
 use Rattle.schedule.specs.Bounded.{bit}
-use Rattle.checks.specs.Ticks.{any, outranking_of}
-use Rattle.bits.proofs.Apart.{lowest_lt, rest_less}
-use Rattle.checks.proofs.WordLoops.{join_next, joined-whole}
-use borrow.Author.Rules.{rules}
+use Rattle.checks.specs.Ticks.{any}
 use Rattle.checks.proofs.tick.outranking.Given as goal
 
 abbrev pub invariant-loop-rest : goal.invariant-loop-rest

@@ -1,4 +1,4 @@
-use Prim.Native.Nat.{ℕ, ◌≤◌, ◌-◌}
+use Prim.Native.Nat.{ℕ}
 use native.Mathlib.Omega.{arith}
 use mathlib.Core.Option.{some}
 use mathlib.Core.Path.{◌≡◌, sym, subst, ap, ◌∙◌}
@@ -11,14 +11,11 @@ use Rattle.laws.proofs.Ranges.{width_lt}
 use Rattle.laws.proofs.RowLaws.{ClearTo, clear-start, clear_again, clear-end, clear-stop}
 use Rattle.laws.proofs.Sound.{rule-number}
 use Rattle.laws.proofs.PlanBytes.{word_read}
-use Rattle.ticks.specs.Kept.{Stands}
 use Rattle.ticks.proofs.KeptLaws.{stands_unknown, stands_on}
-use Rattle.checks.specs.Tables.{ends, froms, befores, Tabulated}
-use Rattle.checks.specs.Ticks.{tick_rule, Ranked, breaking_of}
-use Rattle.checks.specs.Windows.{open_of}
+use Rattle.checks.specs.Tables.{befores}
+use Rattle.checks.specs.Ticks.{tick_rule}
 use Rattle.checks.proofs.TickLaws.{nothing-shown, tick_read, tick-shape}
 use Rattle.checks.proofs.MaskRow.{row_stops, row_goes_on, mask_none}
-use borrow.Author.Rules.{rules}
 use Rattle.checks.proofs.tick.over_ticks.Goals as goal
 
 pub loop-t-init : goal.loop-t-init

@@ -1,26 +1,14 @@
 -- `checks::tick::over_ticks` meets its contract: the ticks passed are clear, and the last of them broke nothing.
 -- Assumes nothing.
-use Prim.Native.Nat.{ℕ, ◌≤◌, ◌-◌}
-use native.Mathlib.Omega.{arith}
-use mathlib.Core.Option.{some}
-use mathlib.Core.Path.{◌≡◌, sym, subst, ap, ◌∙◌}
-use Rattle.schedule.specs.declared.RuleRefusal.{RuleRefusal}
+use Prim.Native.Nat.{◌≤◌, ◌-◌}
+use mathlib.Core.Path.{◌≡◌}
 use Rattle.schedule.specs.Model.{model}
 use Rattle.schedule.specs.Plan.{plan}
-use Rattle.records.specs.declared.model.Sizes.{Sizes}
-use Rattle.records.specs.Rows.{sizes_of}
-use Rattle.laws.proofs.Ranges.{width_lt}
-use Rattle.laws.proofs.RowLaws.{ClearTo, clear-start, clear_again, clear-end, clear-stop}
-use Rattle.laws.proofs.Sound.{rule-number}
-use Rattle.laws.proofs.PlanBytes.{word_read}
+use Rattle.laws.proofs.RowLaws.{ClearTo}
 use Rattle.ticks.specs.Kept.{Stands}
-use Rattle.ticks.proofs.KeptLaws.{stands_unknown, stands_on}
 use Rattle.checks.specs.Tables.{ends, froms, befores, Tabulated}
 use Rattle.checks.specs.Ticks.{tick_rule, Ranked, breaking_of}
 use Rattle.checks.specs.Windows.{open_of}
-use Rattle.checks.proofs.TickLaws.{nothing-shown, tick_read, tick-shape}
-use Rattle.checks.proofs.MaskRow.{row_stops, row_goes_on, mask_none}
-use borrow.Author.Rules.{rules}
 use Rattle.checks.proofs.tick.over_ticks.Given as goal
 
 abbrev pub invariant-loop-t : goal.invariant-loop-t

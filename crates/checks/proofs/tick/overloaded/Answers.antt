@@ -1,6 +1,5 @@
 -- `checks::tick::overloaded` meets its contract, by its test. Assumes nothing.
 use borrow.Author.Tests.{le-leb, lt-leb}
-use borrow.Author.Rules.{rules}
 use Rattle.checks.specs.Ticks.{overloaded_of}
 use Rattle.checks.proofs.tick.overloaded.Goals as goal
 

@@ -4,7 +4,6 @@ use mathlib.Core.Path.{sym, subst, ◌∙◌}
 use lib.Dec.{T}
 use Rattle.laws.proofs.Tests.{T_ltb}
 use Rattle.checks.proofs.WindowLaws.{quiet_same}
-use borrow.Author.Rules.{rules}
 use Rattle.checks.proofs.windows.at.Goals as goal
 
 pub returns-then-lasts : goal.returns-then-lasts

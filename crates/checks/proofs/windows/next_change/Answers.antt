@@ -1,10 +1,6 @@
 use native.Mathlib.Omega.{arith}
-use Prim.Native.Nat.{◌≤◌, ◌-◌}
 use mathlib.Core.Path.{◌≡◌}
-use lib.ListN.{get_or}
-use Rattle.ticks.specs.Kept.{Quiet}
 use Rattle.ticks.proofs.KeptLaws.{quiet_start, quiet_next, quiet_sooner}
-use borrow.Author.Rules.{rules}
 use Rattle.checks.proofs.windows.next_change.Goals as goal
 
 pub loop-a-init : goal.loop-a-init

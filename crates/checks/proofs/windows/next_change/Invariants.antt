@@ -1,11 +1,7 @@
 -- `checks::windows::next_change` meets its contract: no window passed opens or closes before `next`. Assumes nothing.
-use native.Mathlib.Omega.{arith}
 use Prim.Native.Nat.{◌≤◌, ◌-◌}
-use mathlib.Core.Path.{◌≡◌}
 use lib.ListN.{get_or}
 use Rattle.ticks.specs.Kept.{Quiet}
-use Rattle.ticks.proofs.KeptLaws.{quiet_start, quiet_next, quiet_sooner}
-use borrow.Author.Rules.{rules}
 use Rattle.checks.proofs.windows.next_change.Given as goal
 
 abbrev pub invariant-loop-a : goal.invariant-loop-a

@@ -1,9 +1,7 @@
 use native.Mathlib.Omega.{arith}
-use Prim.Native.Nat.{◌≤◌, ◌-◌}
 use mathlib.Core.Path.{◌≡◌, sym, ap, ◌∙◌}
 use Rattle.laws.proofs.WordLaws.{mark_next, word-start}
 use Rattle.checks.specs.Windows.{open_of}
-use borrow.Author.Rules.{rules}
 use Rattle.checks.proofs.windows.opened.Goals as goal
 
 pub loop-a-init : goal.loop-a-init

@@ -1,10 +1,7 @@
 -- `checks::windows::opened` meets its contract: the mask holds the windows passed that are open. Assumes nothing.
-use native.Mathlib.Omega.{arith}
 use Prim.Native.Nat.{◌≤◌, ◌-◌}
-use mathlib.Core.Path.{◌≡◌, sym, ap, ◌∙◌}
-use Rattle.laws.proofs.WordLaws.{mark_next, word-start}
+use mathlib.Core.Path.{◌≡◌}
 use Rattle.checks.specs.Windows.{open_of}
-use borrow.Author.Rules.{rules}
 use Rattle.checks.proofs.windows.opened.Given as goal
 
 abbrev pub invariant-loop-a : goal.invariant-loop-a

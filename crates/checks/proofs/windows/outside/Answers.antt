@@ -1,5 +1,5 @@
 use native.Mathlib.Omega.{arith}
-use Prim.Native.Nat.{ℕ, ◌≤◌, ◌<◌, ◌-◌}
+use Prim.Native.Nat.{ℕ}
 use mathlib.Core.Bool.{◌&&◌, not}
 use mathlib.Core.Path.{◌≡◌, ap, ◌∙◌}
 use lib.Bits.{bit_or}
@@ -8,11 +8,9 @@ use lib.ListN.{get_or}
 use Rattle.schedule.specs.Bounded.{all, bit, ◌⇒◌}
 use Rattle.schedule.specs.Plan.{plan, active}
 use Rattle.laws.proofs.PlanBytes.{word_read}
-use Rattle.ticks.specs.Kept.{Stands}
 use Rattle.ticks.proofs.KeptLaws.{stands_unknown, stands_on}
-use Rattle.checks.specs.Windows.{open_of, without}
+use Rattle.checks.specs.Windows.{without}
 use Rattle.checks.proofs.WindowLaws.{stray_start, stray_next}
-use borrow.Author.Rules.{rules}
 use Rattle.checks.proofs.windows.outside.Goals as goal
 
 pub loop-t-init : goal.loop-t-init

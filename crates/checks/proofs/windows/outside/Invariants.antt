@@ -1,19 +1,13 @@
 -- `checks::windows::outside` meets its contract: `strays` holds what is active outside its window at the ticks passed. Assumes nothing.
-use native.Mathlib.Omega.{arith}
 use Prim.Native.Nat.{ℕ, ◌≤◌, ◌<◌, ◌-◌}
 use mathlib.Core.Bool.{◌&&◌, not}
-use mathlib.Core.Path.{◌≡◌, ap, ◌∙◌}
-use lib.Bits.{bit_or}
+use mathlib.Core.Path.{◌≡◌}
 use lib.Dec.{leb, ltb}
 use lib.ListN.{get_or}
 use Rattle.schedule.specs.Bounded.{all, bit, ◌⇒◌}
 use Rattle.schedule.specs.Plan.{plan, active}
-use Rattle.laws.proofs.PlanBytes.{word_read}
 use Rattle.ticks.specs.Kept.{Stands}
-use Rattle.ticks.proofs.KeptLaws.{stands_unknown, stands_on}
-use Rattle.checks.specs.Windows.{open_of, without}
-use Rattle.checks.proofs.WindowLaws.{stray_start, stray_next}
-use borrow.Author.Rules.{rules}
+use Rattle.checks.specs.Windows.{open_of}
 use Rattle.checks.proofs.windows.outside.Given as goal
 
 abbrev pub invariant-loop-t : goal.invariant-loop-t

@@ -10,7 +10,6 @@ use Rattle.tables.specs.Columns.{column_of}
 use Rattle.tables.proofs.TableLaws.{by_table}
 use Rattle.checks.specs.Tables.{ends}
 use Rattle.checks.proofs.WindowLaws.{strays_read}
-use borrow.Author.Rules.{rules}
 use Rattle.checks.proofs.windows.strays.Goals as goal
 
 pub outside-requires : goal.outside-requires

@@ -1,11 +1,10 @@
 use native.Mathlib.Omega.{arith}
-use Prim.Native.Nat.{ℕ, ◌≤◌, ◌-◌}
+use Prim.Native.Nat.{ℕ}
 use mathlib.Core.Bool.{Bool, not}
 use mathlib.Core.Path.{sym, subst, ap}
 use lib.Dec.{T}
 use Rattle.machine.specs.Ending.{in_time_from}
-use Rattle.laws.proofs.Lowest.{Clear, clear_none, clear-more, found_here, found_none}
-use borrow.Author.Rules.{rules}
+use Rattle.laws.proofs.Lowest.{clear_none, clear-more, found_here, found_none}
 use Rattle.machine.proofs.ending.first_late.Goals as goal
 
 pub loop-a-init : goal.loop-a-init

@@ -1,12 +1,8 @@
 -- `machine::ending::first_late` meets its contract: every activity passed keeps its deadline. Assumes nothing.
-use native.Mathlib.Omega.{arith}
-use Prim.Native.Nat.{ℕ, ◌≤◌, ◌-◌}
-use mathlib.Core.Bool.{Bool, not}
-use mathlib.Core.Path.{sym, subst, ap}
-use lib.Dec.{T}
+use Prim.Native.Nat.{◌≤◌, ◌-◌}
+use mathlib.Core.Bool.{not}
 use Rattle.machine.specs.Ending.{in_time_from}
-use Rattle.laws.proofs.Lowest.{Clear, clear_none, clear-more, found_here, found_none}
-use borrow.Author.Rules.{rules}
+use Rattle.laws.proofs.Lowest.{Clear}
 use Rattle.machine.proofs.ending.first_late.Given as goal
 
 abbrev pub invariant-loop-a : goal.invariant-loop-a

@@ -1,11 +1,11 @@
-use Prim.Native.Nat.{ℕ, ◌≤◌, ◌-◌}
+use Prim.Native.Nat.{ℕ}
 use native.Mathlib.Omega.{arith}
 use mathlib.Core.Bool.{Bool, true, false, not}
 use mathlib.Core.Path.{sym, ap}
 use lib.Dec.{eqb}
 use lib.ListN.{get_or}
 use borrow.Author.Tests.{eq-eqb, ne_eqb}
-use Rattle.laws.proofs.Lowest.{Clear, clear_none, clear-more, found_here, found_none}
+use Rattle.laws.proofs.Lowest.{clear_none, clear-more, found_here, found_none}
 use Rattle.machine.proofs.ending.first_owing.Goals as goal
 
 pub loop-a-init : goal.loop-a-init

@@ -2,7 +2,6 @@
 -- Assumes nothing.
 use native.Mathlib.Omega.{arith}
 use mathlib.Core.Path.{sym, ap, ◌∙◌}
-use borrow.Author.Rules.{rules}
 use Rattle.records.specs.Rows.{sizes_of}
 use Rattle.records.specs.declared.model.Sizes.{Sizes}
 use Rattle.tables.specs.Columns.{column_of}

@@ -4,7 +4,6 @@ use mathlib.Core.Path.{sym, subst, ◌∙◌}
 use lib.Dec.{T}
 use Rattle.laws.proofs.Tests.{T_ltb}
 use Rattle.machine.proofs.StretchLaws.{lasts_fresh}
-use borrow.Author.Rules.{rules}
 use Rattle.machine.proofs.stretches.at.Goals as goal
 
 pub returns-then-lasts : goal.returns-then-lasts

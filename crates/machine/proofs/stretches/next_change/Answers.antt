@@ -1,9 +1,6 @@
 use native.Mathlib.Omega.{arith}
-use Prim.Native.Nat.{◌≤◌, ◌-◌}
 use mathlib.Core.Path.{◌≡◌}
-use Rattle.machine.specs.Stretches.{Unchanged}
 use Rattle.machine.proofs.StretchLaws.{unchanged_start, unchanged_next}
-use borrow.Author.Rules.{rules}
 use Rattle.machine.proofs.stretches.next_change.Goals as goal
 
 pub loop-a-init : goal.loop-a-init

@@ -1,11 +1,7 @@
 -- `machine::stretches::next_change` meets its contract: of the activities gone through, nothing passes before `next`.
 -- Assumes nothing.
-use native.Mathlib.Omega.{arith}
 use Prim.Native.Nat.{◌≤◌, ◌-◌}
-use mathlib.Core.Path.{◌≡◌}
 use Rattle.machine.specs.Stretches.{Unchanged}
-use Rattle.machine.proofs.StretchLaws.{unchanged_start, unchanged_next}
-use borrow.Author.Rules.{rules}
 use Rattle.machine.proofs.stretches.next_change.Given as goal
 
 abbrev pub invariant-loop-a : goal.invariant-loop-a

@@ -1,7 +1,6 @@
 use native.Mathlib.Omega.{arith}
 use Rattle.bits.proofs.Apart.{lowest_lt, rest_less}
-use Rattle.machine.proofs.StretchLaws.{Ending, ending_start, ending_next, ending_end}
-use borrow.Author.Rules.{rules}
+use Rattle.machine.proofs.StretchLaws.{ending_start, ending_next, ending_end}
 use Rattle.machine.proofs.stretches.next_end.Goals as goal
 
 pub loop-rest-init : goal.loop-rest-init

@@ -1,6 +1,5 @@
 -- `machine::tick::end_after` meets its contract: the end where its last tick is run. Assumes nothing.
 use borrow.Author.Tests.{eq-eqb, ne_eqb}
-use borrow.Author.Rules.{rules}
 use Rattle.machine.proofs.tick.end_after.Goals as goal
 
 pub returns-then-owes-eq1 : goal.returns-then-owes-eq1

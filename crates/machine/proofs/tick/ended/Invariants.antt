@@ -1,10 +1,7 @@
 -- `machine::tick::ended` meets its contract: the mask holds what has ended among the activities passed.
 -- Assumes nothing.
 use Prim.Native.Nat.{◌≤◌, ◌-◌}
-use native.Mathlib.Omega.{arith}
-use mathlib.Core.Path.{◌≡◌, sym, ap, ◌∙◌}
-use borrow.Author.Rules.{rules}
-use Rattle.laws.proofs.WordLaws.{mark_next, word-start}
+use mathlib.Core.Path.{◌≡◌}
 use Rattle.machine.specs.Masks.{ended_mask}
 use Rattle.machine.proofs.tick.ended.Given as goal
 

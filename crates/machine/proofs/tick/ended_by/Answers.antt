@@ -1,6 +1,5 @@
 -- `machine::tick::ended_by` meets its contract: the two tests in turn.
 -- Assumes nothing.
-use borrow.Author.Rules.{rules}
 use borrow.Author.Tests.{eq-eqb, ne_eqb}
 use Rattle.machine.specs.Masks.{ended_from}
 use Rattle.machine.proofs.tick.ended_by.Goals as goal

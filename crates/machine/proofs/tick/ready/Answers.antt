@@ -1,7 +1,5 @@
-use Prim.Native.Nat.{◌≤◌, ◌-◌}
 use native.Mathlib.Omega.{arith}
 use mathlib.Core.Path.{◌≡◌, sym, ap, ◌∙◌}
-use borrow.Author.Rules.{rules}
 use Rattle.schedule.specs.Bounded.{word_of}
 use Rattle.laws.proofs.WordLaws.{mark_next, word-start}
 use Rattle.machine.specs.Masks.{ready_from}

@@ -1,11 +1,8 @@
 -- `machine::tick::ready` meets its contract: the mask holds what is ready among the activities passed.
 -- Assumes nothing.
 use Prim.Native.Nat.{◌≤◌, ◌-◌}
-use native.Mathlib.Omega.{arith}
-use mathlib.Core.Path.{◌≡◌, sym, ap, ◌∙◌}
-use borrow.Author.Rules.{rules}
+use mathlib.Core.Path.{◌≡◌}
 use Rattle.schedule.specs.Bounded.{word_of}
-use Rattle.laws.proofs.WordLaws.{mark_next, word-start}
 use Rattle.machine.specs.Masks.{ready_from}
 use Rattle.machine.proofs.tick.ready.Given as goal
 

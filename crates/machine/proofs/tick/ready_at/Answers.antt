@@ -3,7 +3,6 @@
 use borrow.Author.Tests.{le-leb, lt-leb}
 use Rattle.machine.specs.Masks.{ready_from}
 use Rattle.machine.proofs.MaskLaws.{pos-ltb}
-use borrow.Author.Rules.{rules}
 use Rattle.machine.proofs.tick.ready_at.Goals as goal
 
 pub returns-then-owed-a-eq0 : goal.returns-then-owed-a-eq0

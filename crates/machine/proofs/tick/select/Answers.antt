@@ -1,8 +1,6 @@
-use Prim.Native.Nat.{◌≤◌, ◌-◌}
 use native.Mathlib.Numerals.{add-one}
 use native.Mathlib.Omega.{arith}
 use mathlib.Core.Path.{◌≡◌, refl, sym, ap, ◌∙◌}
-use borrow.Author.Rules.{rules}
 use Rattle.machine.specs.declared.tick.Walk.{Walk}
 use Rattle.machine.specs.Masks.{walked_from}
 use Rattle.machine.proofs.WalkLaws.{walk_over}

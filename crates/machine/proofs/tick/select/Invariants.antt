@@ -1,13 +1,8 @@
 -- `machine::tick::select` meets its contract: the walk along the places passed, and the others make no difference.
 -- Assumes nothing.
 use Prim.Native.Nat.{◌≤◌, ◌-◌}
-use native.Mathlib.Numerals.{add-one}
-use native.Mathlib.Omega.{arith}
-use mathlib.Core.Path.{◌≡◌, refl, sym, ap, ◌∙◌}
-use borrow.Author.Rules.{rules}
-use Rattle.machine.specs.declared.tick.Walk.{Walk}
+use mathlib.Core.Path.{◌≡◌}
 use Rattle.machine.specs.Masks.{walked_from}
-use Rattle.machine.proofs.WalkLaws.{walk_over}
 use Rattle.machine.proofs.tick.select.Given as goal
 
 abbrev pub invariant-loop-k : goal.invariant-loop-k

@@ -1,7 +1,6 @@
 use native.Mathlib.Omega.{arith}
 use Rattle.bits.proofs.Apart.{lowest_lt, rest_less}
-use Rattle.machine.proofs.MaskLaws.{Stepping, stepping_start, stepping_next, stepping_end}
-use borrow.Author.Rules.{rules}
+use Rattle.machine.proofs.MaskLaws.{stepping_start, stepping_next, stepping_end}
 use Rattle.machine.proofs.tick.step.Goals as goal
 
 pub loop-rest-init : goal.loop-rest-init

@@ -1,8 +1,5 @@
 -- `machine::tick::step` meets its contract: the activities that the rest of the word has not are stepped. Assumes nothing.
-use native.Mathlib.Omega.{arith}
-use Rattle.bits.proofs.Apart.{lowest_lt, rest_less}
-use Rattle.machine.proofs.MaskLaws.{Stepping, stepping_start, stepping_next, stepping_end}
-use borrow.Author.Rules.{rules}
+use Rattle.machine.proofs.MaskLaws.{Stepping}
 use Rattle.machine.proofs.tick.step.Given as goal
 
 abbrev pub invariant-loop-rest : goal.invariant-loop-rest

@@ -1,6 +1,5 @@
 -- `machine::tick::tick` meets its contract: the masks one after the other.
 -- Assumes nothing.
-use borrow.Author.Rules.{rules}
 use Rattle.machine.specs.Masks.{tick_word, ready_mask}
 use Rattle.machine.proofs.tick.tick.Goals as goal
 
