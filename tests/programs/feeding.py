@@ -224,8 +224,9 @@ class Fed:
         self.shell("a closed standard output", feed + '"$0" >&-', message)
         self.shell("a full standard output", feed + '"$0" >/dev/full', message)
         self.shell("closed standard output and standard error", feed + '"$0" >&- 2>&-', None)
-        self.unread("ignored", signal.SIG_IGN, pair, (0, b"", message))
-        self.unread("left", signal.SIG_DFL, pair, (-signal.SIGPIPE, b"", None))
+        # a program that rt builds ignores the signal from its start on
+        for how, action in (("ignored", signal.SIG_IGN), ("left", signal.SIG_DFL)):
+            self.unread(how, action, pair, (0, b"", message))
 
     def unread(self, how, action, pair, expected):
         """The program writes to a pipe that nobody reads."""
