@@ -1,10 +1,10 @@
 -- What the calls hand on: the state after a direct edit, the scratch of an ask, and what an ask and a keep answer and leave.
 -- Assumes nothing.
 use Prim.Native.Nat.{ℕ, ◌≤◌}
-use mathlib.Core.List.{List, ◌++◌, append-nil}
-use mathlib.Core.Path.{◌≡◌, sym, ap, ap₂, subst, ◌∙◌}
-use lib.ListN.{length, take, drop, replicate, length-replicate}
-use lib.Seq.{take-length, drop-length, length-take-le}
+use mathlib.Core.List.{List}
+use mathlib.Core.Path.{◌≡◌, sym, ap, subst, ◌∙◌}
+use lib.ListN.{length, take, replicate, length-replicate}
+use lib.Seq.{length-take-le}
 use Rattle.schedule.specs.Fields.{Bytes}
 use Rattle.schedule.specs.Plan.{plan, plan_bytes}
 use Rattle.schedule.specs.Answers.{Answer, accepted, refused, plain_verdict}

@@ -12,11 +12,10 @@ ghost use Rattle.edit_rules.specs.Edits.{marking, clearing, edit_rules, edit_ans
 ghost use Rattle.edit_rules.specs.EditNumbers.{edit_number, reason_numbers, edited_numbers, unkept_numbers, kept_numbers, told_numbers};
 ghost use Rattle.edit_rules.specs.Keeping.{nothing_asked, ask_answer, ask_state, edit_state, keep_answer, keep_bytes, keep_state};
 
-use edit_rules::{AskStep, Asked, Editing, Kept, KeepStep, Step, Told, Unkept};
+use edit_rules::{AskStep, Asked, Editing, KeepStep, Kept, Step, Told, Unkept};
+pub use edit_rules::{Edit, EditRefusal, Edited, Reason};
 use records::Pass;
 use schedule::{Numbered, Verdict};
-
-pub use edit_rules::{Edit, EditRefusal, Edited, Reason};
 
 mod stroke;
 

@@ -22,7 +22,7 @@ ghost use Rattle.std.specs.Prelude.{◌≡◌, ◌≤◌, length};
 ghost use Rattle.schedule.specs.Numbers.{word_numbers};
 ghost use Rattle.schedule.specs.Streams.{view_word};
 
-use edit_rules::{Edit, Edited, Editing, Step, Told};
+use edit_rules::{Edit, Edited, Editing, Kept, Step, Told};
 use input::Input;
 use numbers::{refusal_numbers, smaller, wrap_number};
 use records::Pass;
@@ -314,11 +314,19 @@ fn next_file<R: Read, W: Write>(cases: &mut R, out: &mut W) -> io::Result<()> {
     print_bytes(out, "part", exchange::chosen(&file[..n]))
 }
 
-// Prints what a mark, a clear or a keep answers.
+// Prints what a mark or a clear answers.
 fn print_edited<W: Write>(out: &mut W, answer: Edited) -> io::Result<()> {
     match answer {
         Edited::Done => writeln!(out, "done"),
         Edited::Refused(why) => print_numbers(out, edits::reason_numbers(why)),
+    }
+}
+
+// Prints what a keep answers.
+fn print_kept<W: Write>(out: &mut W, answer: Kept) -> io::Result<()> {
+    match answer {
+        Kept::Done => writeln!(out, "done"),
+        Kept::Refused(why) => print_numbers(out, edits::unkept_numbers(why)),
     }
 }
 
@@ -357,15 +365,24 @@ fn ask_for<W: Write>(
     Ok(step.state)
 }
 
-// A mark for 1, a keep for 4, and a clear otherwise.
+// Keeps what was asked for, prints what that answers, and hands on the state.
+fn keep<W: Write>(
+    out: &mut W,
+    state: Editing,
+    model: &[u8],
+    plan: &mut [u8],
+) -> io::Result<Editing> {
+    let step = edits::keep(state, model, plan);
+    print_kept(out, step.answer)?;
+    Ok(step.state)
+}
+
+// A mark for 1, and a clear otherwise.
 fn edited(state: Editing, model: &[u8], plan: &mut [u8], kind: u32, e: Edit) -> Step {
-    if kind == 4 {
-        return edits::keep(state, model, plan);
-    }
     if kind == 1 {
-        return edits::mark(state, model, plan, e.activity, e.tick);
+        return edits::mark_with(state, model, plan, e.activity, e.tick);
     }
-    edits::clear(state, model, plan, e.activity, e.tick)
+    edits::clear_with(state, model, plan, e.activity, e.tick)
 }
 
 // Makes that edit, prints what it answers, and hands on the state.
@@ -398,6 +415,9 @@ fn next_call<R: Read, W: Write>(
     };
     if kind == 2 || kind == 3 {
         return ask_for(out, state, model, plan, e);
+    }
+    if kind == 4 {
+        return keep(out, state, model, plan);
     }
     edit(out, state, model, plan, kind, e)
 }

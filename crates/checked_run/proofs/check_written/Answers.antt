@@ -1,5 +1,4 @@
 -- `checked_run::check_written` meets its contract: both verdicts are on the front of the buffer. Assumes nothing.
-use borrow.Author.Rules.{rules}
 use mathlib.Core.Path.{ap, ap₂, ◌∙◌}
 use Rattle.schedule.specs.Answers
 use Rattle.schedule.specs.Answers.{Answer, plain_verdict, strict_verdict}

@@ -1,7 +1,6 @@
 -- `edits::apply` meets its contract: a refused call changes nothing, and any other makes its edit. Assumes nothing.
 use mathlib.Core.Path.{sym, ◌∙◌}
 use Rattle.edits.proofs.StrokeLaws.{refused-leaves, is_done, done_editable, done-leaves}
-use borrow.Author.Rules.{rules}
 use Rattle.edits.proofs.apply.Goals as goal
 
 pub returns-in_default : goal.returns-in_default

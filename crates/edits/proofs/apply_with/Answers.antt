@@ -2,7 +2,6 @@
 use mathlib.Core.Path.{sym, ◌∙◌}
 use Rattle.edits.proofs.StrokeLaws.{is_done}
 use Rattle.edits.proofs.StateLaws.{state_stays, state_moves}
-use borrow.Author.Rules.{rules}
 use Rattle.edits.proofs.apply_with.Goals as goal
 
 pub returns-in_default : goal.returns-in_default

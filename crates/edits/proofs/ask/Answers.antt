@@ -2,7 +2,6 @@
 use mathlib.Core.Path.{◌∙◌}
 use Rattle.edits.proofs.StrokeLaws.{is_done}
 use Rattle.edits.proofs.StateLaws.{ask-refused, ask_erases, ask-told, ask-asks}
-use borrow.Author.Rules.{rules}
 use Rattle.edits.proofs.ask.Goals as goal
 
 pub returns-in-Refused : goal.returns-in-Refused

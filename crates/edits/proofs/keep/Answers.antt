@@ -1,7 +1,6 @@
 -- `edits::keep` meets its contract: refused with nothing asked, and otherwise the direct edit. Assumes nothing.
 use mathlib.Core.Path.{◌∙◌}
 use Rattle.edits.proofs.StateLaws.{unkept_answer, unkept_leaves, kept-answer, kept-state, kept-bytes}
-use borrow.Author.Rules.{rules}
 use Rattle.edits.proofs.keep.Goals as goal
 
 pub returns-in_default : goal.returns-in_default

@@ -1,5 +1,4 @@
 -- `edits::reason_numbers` meets its contract: a record's refusal by its numbers, an edit's with no place. Assumes nothing.
-use borrow.Author.Rules.{rules}
 use Rattle.edits.proofs.reason_numbers.Goals as goal
 
 pub returns-in-Record : goal.returns-in-Record

@@ -8,7 +8,6 @@ use Rattle.records.specs.declared.model.Sizes.{Sizes}
 use Rattle.records.specs.Rows.{sizes_of}
 use Rattle.edit_rules.proofs.AnswerLaws.{rules_58, rules_59, rules_60, rules-done}
 use Rattle.edits.proofs.ScanLaws.{so, so_taken, so_free}
-use borrow.Author.Rules.{rules}
 use Rattle.edits.proofs.rules.Goals as goal
 
 pub returns-then-sizes-e : goal.returns-then-sizes-e

@@ -1,7 +1,6 @@
 -- `edits::tried` meets its contract: the form of the records, then the edit's own rules. Assumes nothing.
 use mathlib.Core.Path.{◌∙◌}
 use Rattle.edits.proofs.StrokeLaws.{records_refused, records_pass}
-use borrow.Author.Rules.{rules}
 use Rattle.edits.proofs.tried.Goals as goal
 
 pub returns-in-Refused : goal.returns-in-Refused

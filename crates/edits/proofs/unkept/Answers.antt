@@ -1,6 +1,5 @@
 -- `edits::unkept` meets its contract: the form of the records, then 61. Assumes nothing.
 use Rattle.edits.proofs.StateLaws.{unkept_records, unkept_61}
-use borrow.Author.Rules.{rules}
 use Rattle.edits.proofs.unkept.Goals as goal
 
 pub returns-in-Refused : goal.returns-in-Refused

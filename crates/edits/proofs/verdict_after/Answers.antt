@@ -2,7 +2,6 @@
 use mathlib.Core.Path.{sym}
 use Rattle.edit_rules.proofs.OneEdit.{longest}
 use Rattle.edits.proofs.StateLaws.{room}
-use borrow.Author.Rules.{rules}
 use Rattle.edits.proofs.verdict_after.Goals as goal
 
 pub slice_bounds-scratch-end : goal.slice_bounds-scratch-end

@@ -2,7 +2,6 @@
 use mathlib.Core.Path.{ap, ◌∙◌}
 use Rattle.schedule.specs.Answers.{plain_verdict}
 use Rattle.edits.proofs.StateLaws.{copy_editable, copy_edited}
-use borrow.Author.Rules.{rules}
 use Rattle.edits.proofs.verdict_in.Goals as goal
 
 pub make-requires : goal.make-requires

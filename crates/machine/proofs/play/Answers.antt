@@ -23,13 +23,12 @@ play_ticks-last-requires c = c.tabulate-tables.ensures
 
 pub judge-judged-requires : goal.judge-judged-requires
 unfolding sizes_of
-judge-judged-requires c =
-    (
-      c.tabulate-tables.ensures,
-      finished_stopped _ _ _ _ _ _
-          (omega (arith, c.if-sizes-gt32.false, ap (λ (r : Sizes). r.activities) c.counts-sizes.ensures))
-          c.play_ticks-last.ensures,
-    )
+judge-judged-requires c = (
+  c.tabulate-tables.ensures,
+  finished_stopped _ _ _ _ _ _
+      (omega (arith, c.if-sizes-gt32.false, ap (λ (r : Sizes). r.activities) c.counts-sizes.ensures))
+      c.play_ticks-last.ensures,
+)
 
 pub returns : goal.returns
 unfolding sizes_of

@@ -4,7 +4,6 @@ use native.Mathlib.Omega.{arith}
 use mathlib.Core.Path.{refl}
 use Rattle.machine.proofs.PlayLaws.{played_ended}
 use Rattle.report.proofs.ReportLaws.{short-reports, fits-reports}
-use borrow.Author.Rules.{rules}
 use Rattle.report.proofs.attempt.Goals as goal
 
 pub returns-then-list-lt-ROWS : goal.returns-then-list-lt-ROWS

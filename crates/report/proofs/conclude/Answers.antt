@@ -3,7 +3,6 @@
 use mathlib.Core.Path.{sym, ◌∙◌}
 use Rattle.laws.proofs.LatenessLaws.{rows-filled, rows-kept}
 use Rattle.report.proofs.ReportLaws.{concludes}
-use borrow.Author.Rules.{rules}
 use Rattle.report.proofs.conclude.Goals as goal
 
 pub returns-then-fills : goal.returns-then-fills

@@ -1,7 +1,6 @@
 -- `report::lateness` meets its contract: the first break of the input rules; past them the rest counts.
 -- Assumes nothing.
 use mathlib.Core.Path.{sym, ap, ◌∙◌}
-use borrow.Author.Rules.{rules}
 use Rattle.laws.proofs.Formed.{input-holds}
 use Rattle.records.specs.Reads.{pass_numbers}
 use Rattle.report.proofs.ReportLaws.{input-refused, input-passed}

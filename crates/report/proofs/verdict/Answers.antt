@@ -1,6 +1,5 @@
 -- `report::verdict` meets its contract: the refusal of 42 and 43, or what a success answers.
 -- Assumes nothing.
-use borrow.Author.Rules.{rules}
 use Rattle.machine.proofs.PlayLaws.{ended-refused, ended_success}
 use Rattle.report.proofs.ReportLaws.{all-ended, succeeds, refuses}
 use Rattle.report.proofs.verdict.Goals as goal

@@ -2,7 +2,6 @@
 -- Assumes nothing.
 use native.Mathlib.Omega.{arith}
 use mathlib.Core.Path.{ap}
-use borrow.Author.Rules.{rules}
 use Rattle.records.specs.Reads.{refusal_in}
 use Rattle.run.proofs.RunLaws.{room-answers, placed-stands, outcome-answers}
 use Rattle.run.proofs.attempt.Goals as goal

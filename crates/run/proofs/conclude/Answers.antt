@@ -5,7 +5,6 @@ use native.Mathlib.Omega.{arith}
 use mathlib.Core.List.{◌++◌}
 use mathlib.Core.Path.{ap, ◌∙◌}
 use lib.ListN.{drop, replicate}
-use borrow.Author.Rules.{rules}
 use Rattle.schedule.specs.Fields.{Bytes}
 use Rattle.schedule.specs.Answers.{length_needed}
 use Rattle.laws.proofs.Ranges.{chosen-release_lt, chosen-period_lt}

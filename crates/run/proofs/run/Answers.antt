@@ -1,7 +1,6 @@
 -- `run::run` meets its contract: the first break of the input rules; past them the outcome counts.
 -- Assumes nothing.
 use mathlib.Core.Path.{sym, ap, ◌∙◌}
-use borrow.Author.Rules.{rules}
 use Rattle.laws.proofs.Formed.{input-holds}
 use Rattle.records.specs.Reads.{pass_numbers}
 use Rattle.run.proofs.RunLaws.{input-refused, input-passed}

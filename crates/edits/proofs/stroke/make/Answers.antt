@@ -6,7 +6,6 @@ use Rattle.records.specs.Rows.{plan_sizes_of}
 use Rattle.records.proofs.PlanWrites.{plan-fits}
 use Rattle.edit_rules.specs.Edits.{word_with}
 use Rattle.edits.proofs.StrokeLaws.{make_says}
-use borrow.Author.Rules.{rules}
 use Rattle.edits.proofs.stroke.make.Goals as goal
 
 pub overflow_cast-t : goal.overflow_cast-t

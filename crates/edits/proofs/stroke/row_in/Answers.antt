@@ -1,10 +1,7 @@
-use Prim.Native.Nat.{◌≤◌, ◌-◌}
 use native.Mathlib.Omega.{arith}
 use mathlib.Core.Path.{◌≡◌, ap, ◌∙◌}
 use Rattle.schedule.specs.Bounded.{bit}
-use Rattle.schedule.specs.Plan.{word_in}
-use Rattle.edits.proofs.ScanLaws.{RowTo, row-start, row_next}
-use borrow.Author.Rules.{rules}
+use Rattle.edits.proofs.ScanLaws.{row-start, row_next}
 use Rattle.edits.proofs.stroke.row_in.Goals as goal
 
 pub loop-t-init : goal.loop-t-init

@@ -1,11 +1,8 @@
 -- `edits::stroke::row_in` meets its contract: tick by tick the row of the ticks so far. Assumes nothing.
 use Prim.Native.Nat.{◌≤◌, ◌-◌}
-use native.Mathlib.Omega.{arith}
-use mathlib.Core.Path.{◌≡◌, ap, ◌∙◌}
 use Rattle.schedule.specs.Bounded.{bit}
 use Rattle.schedule.specs.Plan.{word_in}
-use Rattle.edits.proofs.ScanLaws.{RowTo, row-start, row_next}
-use borrow.Author.Rules.{rules}
+use Rattle.edits.proofs.ScanLaws.{RowTo}
 use Rattle.edits.proofs.stroke.row_in.Given as goal
 
 abbrev pub invariant-loop-t : goal.invariant-loop-t

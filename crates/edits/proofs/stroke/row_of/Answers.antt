@@ -3,7 +3,6 @@ use mathlib.Core.Path.{ap}
 use Rattle.records.specs.declared.plan.PlanSizes.{PlanSizes}
 use Rattle.records.specs.Rows.{plan_sizes_of}
 use Rattle.edits.proofs.StrokeLaws.{row_told}
-use borrow.Author.Rules.{rules}
 use Rattle.edits.proofs.stroke.row_of.Goals as goal
 
 pub returns : goal.returns

@@ -1,7 +1,6 @@
 -- `edits::stroke::seen` meets its contract: the first marked tick so far starts the row. Assumes nothing.
 use mathlib.Core.Logic.{inl, inr}
 use Rattle.edits.proofs.ScanLaws.{seen_start}
-use borrow.Author.Rules.{rules}
 use Rattle.edits.proofs.stroke.seen.Goals as goal
 use Rattle.edits.proofs.stroke.seen.Goals.{then-row-eq0, else-row-eq0}
 

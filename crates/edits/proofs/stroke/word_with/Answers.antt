@@ -1,5 +1,4 @@
 -- `edits::stroke::word_with` meets its contract, by the two kinds of edits. Assumes nothing.
-use borrow.Author.Rules.{rules}
 use Rattle.edits.proofs.stroke.word_with.Goals as goal
 
 pub returns-then-e : goal.returns-then-e

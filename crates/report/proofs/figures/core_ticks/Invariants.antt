@@ -1,11 +1,8 @@
 -- `report::figures::core_ticks` meets its contract: the sum of the products passed, each of which fits. Assumes nothing.
-use Prim.Native.Nat.{ℕ, ◌+◌, ◌*◌, ◌≤◌, ◌-◌}
-use native.Mathlib.Omega.{arith}
-use mathlib.Core.Path.{◌≡◌, sym, ap, ◌∙◌}
+use Prim.Native.Nat.{◌*◌, ◌≤◌, ◌-◌}
+use mathlib.Core.Path.{◌≡◌}
 use lib.ListN.{get_or}
 use Rattle.schedule.specs.Bounded.{total}
-use Rattle.laws.proofs.Steps.{total_next, total-start}
-use Rattle.report.proofs.ReportLaws.{worth_most}
 use Rattle.report.proofs.figures.core_ticks.Given as goal
 
 abbrev pub invariant-loop-a : goal.invariant-loop-a

@@ -18,7 +18,6 @@ use Rattle.tables.specs.declared.columns.Column.{Column}
 use Rattle.tables.proofs.CountLaws.{product_fits}
 use Rattle.tables.proofs.TableLaws.{by_table}
 use Rattle.report.proofs.ReportLaws.{figures_are}
-use borrow.Author.Rules.{rules}
 use Rattle.report.proofs.figures.figures.Goals as goal
 
 -- a column by activity, of a model that meets its form rules

@@ -1,10 +1,9 @@
-use Prim.Native.Nat.{ℕ, ◌≤◌, ◌-◌, max}
+use Prim.Native.Nat.{ℕ, max}
 use native.Mathlib.Omega.{arith}
 use mathlib.Core.Path.{◌≡◌, sym, ap, ◌∙◌}
 use lib.ListN.{get_or}
 use Rattle.schedule.specs.Bounded.{greatest}
 use Rattle.laws.proofs.Steps.{greatest_next, greatest-start}
-use borrow.Author.Rules.{rules}
 use Rattle.report.proofs.figures.latest.Goals as goal
 
 pub loop-a-init : goal.loop-a-init

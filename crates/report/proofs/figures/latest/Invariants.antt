@@ -1,11 +1,8 @@
 -- `report::figures::latest` meets its contract: the greatest of the entries passed. Assumes nothing.
-use Prim.Native.Nat.{ℕ, ◌≤◌, ◌-◌, max}
-use native.Mathlib.Omega.{arith}
-use mathlib.Core.Path.{◌≡◌, sym, ap, ◌∙◌}
+use Prim.Native.Nat.{◌≤◌, ◌-◌}
+use mathlib.Core.Path.{◌≡◌}
 use lib.ListN.{get_or}
 use Rattle.schedule.specs.Bounded.{greatest}
-use Rattle.laws.proofs.Steps.{greatest_next, greatest-start}
-use borrow.Author.Rules.{rules}
 use Rattle.report.proofs.figures.latest.Given as goal
 
 abbrev pub invariant-loop-a : goal.invariant-loop-a

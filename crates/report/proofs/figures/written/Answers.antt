@@ -6,7 +6,6 @@ use Rattle.schedule.specs.Answers
 use Rattle.schedule.specs.Answers.{length_needed}
 use Rattle.records.specs.Rows.{sizes_of}
 use Rattle.records.specs.declared.model.Sizes.{Sizes}
-use borrow.Author.Rules.{rules}
 use Rattle.report.proofs.figures.written.Goals as goal
 
 pub returns : goal.returns

@@ -9,7 +9,6 @@ use mir.Val.{SFits, to_z, of_z}
 use mir.ValLaws.{to_z-of_z}
 use Rattle.schedule.specs.Report.{lateness}
 use Rattle.laws.proofs.LatenessLaws.{figure-fits}
-use borrow.Author.Rules.{rules}
 use Rattle.report.proofs.rows.figure.Goals as goal
 
 -- what 64 bits hold of a small figure is held by 32

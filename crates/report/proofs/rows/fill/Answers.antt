@@ -1,4 +1,4 @@
-use Prim.Native.Nat.{ℕ, ◌≤◌, ◌-◌}
+use Prim.Native.Nat.{ℕ}
 use native.Mathlib.Omega.{arith}
 use mathlib.Core.List.{List}
 use mathlib.Core.Path.{◌≡◌, ap, ap₂, ◌∙◌}
@@ -8,7 +8,6 @@ use mir.Syntax.{w32}
 use mir.ValLaws.{to_z-of_z}
 use Rattle.laws.proofs.LatenessLaws.{rows_then, rows_none, rows_next, length-rows}
 use Rattle.report.specs.Tables.{row_from}
-use borrow.Author.Rules.{rules}
 use Rattle.report.proofs.rows.fill.Goals as goal
 
 pub loop-a-init : goal.loop-a-init

@@ -1,15 +1,8 @@
 -- `report::rows::fill` meets its contract: the rows passed are written, the others as they were. Assumes nothing.
-use Prim.Native.Nat.{ℕ, ◌≤◌, ◌-◌}
-use native.Mathlib.Omega.{arith}
-use mathlib.Core.List.{List}
-use mathlib.Core.Path.{◌≡◌, ap, ap₂, ◌∙◌}
-use lib.IntN.{ℤ}
-use lib.ListN.{length, set}
-use mir.Syntax.{w32}
-use mir.ValLaws.{to_z-of_z}
-use Rattle.laws.proofs.LatenessLaws.{rows_then, rows_none, rows_next, length-rows}
+use Prim.Native.Nat.{◌≤◌, ◌-◌}
+use mathlib.Core.Path.{◌≡◌}
+use Rattle.laws.proofs.LatenessLaws.{rows_then}
 use Rattle.report.specs.Tables.{row_from}
-use borrow.Author.Rules.{rules}
 use Rattle.report.proofs.rows.fill.Given as goal
 
 abbrev pub invariant-loop-a : goal.invariant-loop-a

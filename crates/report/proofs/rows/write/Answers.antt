@@ -17,7 +17,6 @@ use Rattle.tables.specs.declared.columns.Column.{Column}
 use Rattle.tables.proofs.TableLaws.{by_table}
 use Rattle.report.specs.Tables.{row_from, Small, HasEnds}
 use Rattle.report.proofs.ReportLaws.{row_is, tables-small}
-use borrow.Author.Rules.{rules}
 use Rattle.report.proofs.rows.write.Goals as goal
 
 -- from the columns of the chosen releases and periods

@@ -1,8 +1,8 @@
-use Prim.Native.Nat.{ℕ, ◌≤◌, ◌-◌}
+use Prim.Native.Nat.{ℕ}
 use native.Mathlib.Omega.{arith}
 use mathlib.Core.List.{List, ◌++◌}
 use mathlib.Core.Path.{◌≡◌, refl, ap, ◌∙◌}
-use lib.ListN.{length, drop, set, replicate, length-set}
+use lib.ListN.{drop, set, replicate, length-set}
 use borrow.Author.Fill.{fill_none, fill_more}
 use Rattle.run.proofs.plan.clear.Goals as goal
 

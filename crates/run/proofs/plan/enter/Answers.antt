@@ -1,7 +1,6 @@
 use native.Mathlib.Omega.{arith}
 use Rattle.bits.proofs.Apart.{lowest_lt, rest_less}
-use Rattle.run.proofs.StartLaws.{Entering, entering_start, entering_next, entering_end}
-use borrow.Author.Rules.{rules}
+use Rattle.run.proofs.StartLaws.{entering_start, entering_next, entering_end}
 use Rattle.run.proofs.plan.enter.Goals as goal
 
 pub loop-rest-init : goal.loop-rest-init

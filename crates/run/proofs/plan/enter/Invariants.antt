@@ -1,8 +1,5 @@
 -- `run::plan::enter` meets its contract: the activities that the rest of the word has not start at t. Assumes nothing.
-use native.Mathlib.Omega.{arith}
-use Rattle.bits.proofs.Apart.{lowest_lt, rest_less}
-use Rattle.run.proofs.StartLaws.{Entering, entering_start, entering_next, entering_end}
-use borrow.Author.Rules.{rules}
+use Rattle.run.proofs.StartLaws.{Entering}
 use Rattle.run.proofs.plan.enter.Given as goal
 
 abbrev pub invariant-loop-rest : goal.invariant-loop-rest

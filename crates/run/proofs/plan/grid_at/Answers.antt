@@ -4,7 +4,6 @@ use mathlib.Core.Path.{ap, ◌∙◌}
 use Rattle.schedule.specs.Plan.{grid_at}
 use Rattle.records.specs.Rows.{sizes_of}
 use Rattle.records.specs.declared.model.Sizes.{Sizes}
-use borrow.Author.Rules.{rules}
 use Rattle.run.proofs.plan.grid_at.Goals as goal
 
 pub returns : goal.returns

@@ -5,7 +5,6 @@ use Rattle.schedule.specs.Answers.{length_needed}
 use Rattle.schedule.specs.Plan.{plan_length}
 use Rattle.records.specs.Rows.{sizes_of}
 use Rattle.records.specs.declared.model.Sizes.{Sizes}
-use borrow.Author.Rules.{rules}
 use Rattle.run.proofs.plan.needed.Goals as goal
 
 pub returns : goal.returns

@@ -1,8 +1,5 @@
-use Prim.Native.Nat.{◌≤◌, ◌<◌, ◌-◌}
 use native.Mathlib.Omega.{arith}
-use Rattle.schedule.specs.Plan.{word_in}
-use Rattle.run.proofs.StartLaws.{Seen, seen_start, seen_next, seen_end}
-use borrow.Author.Rules.{rules}
+use Rattle.run.proofs.StartLaws.{seen_start, seen_next, seen_end}
 use Rattle.run.proofs.plan.starts.Goals as goal
 
 pub overflow_cast-firsts : goal.overflow_cast-firsts

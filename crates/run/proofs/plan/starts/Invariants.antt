@@ -1,10 +1,8 @@
 -- `run::plan::starts` meets its contract: what was seen has its first tick, the rest none so far.
 -- Assumes nothing.
 use Prim.Native.Nat.{◌≤◌, ◌<◌, ◌-◌}
-use native.Mathlib.Omega.{arith}
 use Rattle.schedule.specs.Plan.{word_in}
-use Rattle.run.proofs.StartLaws.{Seen, seen_start, seen_next, seen_end}
-use borrow.Author.Rules.{rules}
+use Rattle.run.proofs.StartLaws.{Seen}
 use Rattle.run.proofs.plan.starts.Given as goal
 
 abbrev pub invariant-loop-t : goal.invariant-loop-t

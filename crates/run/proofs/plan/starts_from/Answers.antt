@@ -6,7 +6,6 @@ use Prim.Native.Nat.{ℕ}
 use Rattle.run.specs.Front.{start_in}
 use Rattle.schedule.specs.Bounded.{table}
 use Rattle.run.proofs.PlanLaws.{rest-says}
-use borrow.Author.Rules.{rules}
 use Rattle.run.proofs.plan.starts_from.Goals as goal
 
 pub returns : goal.returns

@@ -1,11 +1,9 @@
-use Prim.Native.Nat.{◌≤◌, ◌-◌}
 use native.Mathlib.Omega.{arith}
 use mathlib.Core.Path.{◌≡◌, refl, ap, ◌∙◌}
-use lib.ListN.{length, get_or}
+use lib.ListN.{get_or}
 use Rattle.schedule.specs.Plan.{plan_thread_row, pair_rows}
 use Rattle.fields.specs.Put.{put}
 use Rattle.records.proofs.WriteLaws.{pairs_start, pairs_next}
-use borrow.Author.Rules.{rules}
 use Rattle.run.proofs.plan.write_activities.Goals as goal
 
 pub loop-a-init : goal.loop-a-init

@@ -1,13 +1,10 @@
 -- `run::plan::write_activities` meets its contract: the rows passed are written.
 -- Assumes nothing.
 use Prim.Native.Nat.{◌≤◌, ◌-◌}
-use native.Mathlib.Omega.{arith}
-use mathlib.Core.Path.{◌≡◌, refl, ap, ◌∙◌}
+use mathlib.Core.Path.{◌≡◌}
 use lib.ListN.{length, get_or}
 use Rattle.schedule.specs.Plan.{plan_thread_row, pair_rows}
 use Rattle.fields.specs.Put.{put}
-use Rattle.records.proofs.WriteLaws.{pairs_start, pairs_next}
-use borrow.Author.Rules.{rules}
 use Rattle.run.proofs.plan.write_activities.Given as goal
 
 abbrev pub invariant-loop-a : goal.invariant-loop-a

@@ -11,7 +11,6 @@ use Rattle.records.specs.Rows.{sizes_of}
 use Rattle.records.specs.declared.model.Sizes.{Sizes}
 use Rattle.run.specs.Front.{front_in}
 use Rattle.run.proofs.PlanLaws.{front-says, start_le}
-use borrow.Author.Rules.{rules}
 use Rattle.run.proofs.plan.write_front.Goals as goal
 
 -- an entry of a table

@@ -1,7 +1,6 @@
 -- `run::plan::write_grid` meets its contract: what is put into the part behind the rows is put into the whole.
 -- Assumes nothing.
 use native.Mathlib.Omega.{arith}
-use borrow.Author.Rules.{rules}
 use Rattle.schedule.specs.Answers.{length_needed}
 use Rattle.schedule.specs.Choice.{choice}
 use Rattle.schedule.specs.Model.{model}

@@ -1,16 +1,11 @@
 -- `run::plan::write_threads` meets its contract: the rows passed are written.
 -- Assumes nothing.
 use Prim.Native.Nat.{◌≤◌, ◌-◌}
-use native.Mathlib.Omega.{arith}
-use mathlib.Core.Path.{◌≡◌, refl, ap, ◌∙◌}
+use mathlib.Core.Path.{◌≡◌}
 use lib.ListN.{length}
 use Rattle.schedule.specs.Choice.{choice}
 use Rattle.schedule.specs.Plan.{plan_thread_row, pair_rows}
 use Rattle.fields.specs.Put.{put}
-use Rattle.records.specs.Rows.{timing}
-use Rattle.records.specs.declared.plan.Timing.{Timing}
-use Rattle.records.proofs.WriteLaws.{pairs_start, pairs_next}
-use borrow.Author.Rules.{rules}
 use Rattle.run.proofs.plan.write_threads.Given as goal
 
 abbrev pub invariant-loop-j : goal.invariant-loop-j
