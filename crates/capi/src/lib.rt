@@ -12,7 +12,7 @@ ghost use Rattle.edit_rules.specs.Keeping.{asking, ask_answer, ask_state, keep_a
 ghost use Rattle.capi.specs.Exported.{refusal_exported, verdict_exported, run_exported, part_exported, edit_exported, ask_exported};
 ghost use Rattle.capi.specs.States.{edit_of, editing_of, with_asked, edited_state};
 
-use edit_rules::{Asked, Edit, Edited, Editing, Kept, KeepStep, Step, Told};
+use edit_rules::{Asked, Edit, Edited, Editing, KeepStep, Kept, Step, Told};
 use numbers::{refusal_numbers, wrap_number};
 use schedule::{Chosen, Numbered, Part, Refusal, RunVerdict, Standing, Verdict, WrapRefusal};
 

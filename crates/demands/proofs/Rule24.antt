@@ -12,12 +12,13 @@ use mathlib.Core.Path.{◌≡◌, refl, sym, ap, subst, ◌∙◌}
 use borrow.Author.Tests.{eq-eqb}
 use Rattle.schedule.specs.declared.ActivityRule.{ActivityRule}
 use Rattle.schedule.specs.declared.RuleRefusal.{RuleRefusal}
+use Rattle.schedule.specs.declared.TickRule.{TickRule}
 use Rattle.schedule.specs.Rule.{Rule, Refusal, first_break, AllHold, FirstBroken}
 use Rattle.schedule.specs.Model.{Model, model, model_form}
 use Rattle.schedule.specs.Timing.{deadline_rule}
 use Rattle.schedule.specs.Choice.{Choice, choice, choice_form}
 use Rattle.schedule.specs.Plan.{Plan, plan, plan_form}
-use Rattle.schedule.specs.Checks.{rule21, rules_of, plain_order, strict_order, plain_rules, strict_rules}
+use Rattle.schedule.specs.Checks.{rule21, rules_of, plain_order, further_order, strict_order, plain_rules, strict_rules}
 use Rattle.schedule.specs.Answers.{answer, figures, plain_checks, strict_checks, plain_verdict, strict_verdict}
 use Rattle.schedule.specs.Answers.{owed_rule, run_rules, run_checks, length_needed, run_answer}
 use Rattle.schedule.specs.Report.{rows_rule, report_rules, report_answer}
@@ -89,9 +90,35 @@ verdict-without_24 s r after =
     ap (λ o. answer o (figures (model s) (plan r)))
     (append_same (model_form s) _ _ (append_same (plan_form (model s) r) _ _ (without_24 (model s) (plan r) after)))
 
+-- the rules behind it, and the former lists: today's with 24 between these and those in front
+abbrev behind : List RuleRefusal
+behind =
+    RuleRefusal.Activity ActivityRule.Temporal
+    ∷ RuleRefusal.Activity ActivityRule.Data
+    ∷ RuleRefusal.Activity ActivityRule.Eligible
+    ∷ RuleRefusal.Tick TickRule.Cores
+    ∷ RuleRefusal.Tick TickRule.Preemption
+    ∷ []
+
+plain_was : (m : Model) (p : Plan) → former_plain m p ≡ rules_of front m p ++ (rule24 m p ∷ rules_of behind m p)
+unfolding former_plain
+plain_was m p = refl
+
+strict_was : (m : Model) (p : Plan)
+    → former_strict m p ≡ rules_of front m p ++ (rule24 m p ∷ rules_of (behind ++ further_order) m p)
+unfolding former_plain former_strict
+strict_was m p = refl
+
 pub as_before : AsBefore
-unfolding plain_verdict strict_verdict plain_checks strict_checks plain_rules strict_rules verdict_by former_plain former_strict
-as_before = record { plain = λ s r. verdict-without_24 s r _; strict = λ s r. verdict-without_24 s r _ }
+unfolding plain_verdict strict_verdict plain_checks strict_checks plain_rules strict_rules verdict_by
+as_before = record {
+  plain = λ s r.
+      verdict-without_24 s r (rules_of behind (model s) (plan r))
+      ∙ ap (λ rules. verdict_by rules s r) (sym (plain_was (model s) (plan r)));
+  strict = λ s r.
+      verdict-without_24 s r (rules_of (behind ++ further_order) (model s) (plan r))
+      ∙ ap (λ rules. verdict_by rules s r) (sym (strict_was (model s) (plan r)));
+}
 
 -- ---- the number
 

@@ -2,7 +2,6 @@
 -- Assumes nothing.
 use mathlib.Core.Path.{ap, ◌∙◌}
 use Rattle.capi.specs.Exported.{refusal_exported}
-use borrow.Author.Rules.{rules}
 use Rattle.capi.proofs.ask_answer.Goals as goal
 
 pub returns-in-Refused : goal.returns-in-Refused

@@ -1,6 +1,5 @@
 -- `capi::check_answer` meets its contract: the figures, or the refusal.
 -- Assumes nothing.
-use borrow.Author.Rules.{rules}
 use Rattle.capi.proofs.check_answer.Goals as goal
 
 pub returns-in-Accepted : goal.returns-in-Accepted

@@ -1,7 +1,6 @@
 -- `capi::edit_answer` meets its contract: zeros where the edit is made, or the refusal.
 -- Assumes nothing.
 use mathlib.Core.Path.{ap, ◌∙◌}
-use borrow.Author.Rules.{rules}
 use Rattle.capi.specs.Exported.{refusal_exported}
 use Rattle.capi.proofs.edit_answer.Goals as goal
 

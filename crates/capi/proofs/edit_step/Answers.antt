@@ -3,7 +3,6 @@
 use mathlib.Core.Path.{sym, ap, ◌∙◌}
 use Rattle.edit_rules.specs.EditNumbers.{edited_numbers}
 use Rattle.capi.specs.States.{edited_state}
-use borrow.Author.Rules.{rules}
 use Rattle.capi.proofs.edit_step.Goals as goal
 
 pub returns : goal.returns

@@ -1,7 +1,6 @@
 -- `capi::editing` meets its contract: 1 for a mark, 2 for a clear, and nothing for any other number.
 -- Assumes nothing.
 use borrow.Author.Tests.{eq-eqb, ne_eqb}
-use borrow.Author.Rules.{rules}
 use Rattle.capi.proofs.editing.Goals as goal
 
 pub returns-then-kind-eq1 : goal.returns-then-kind-eq1

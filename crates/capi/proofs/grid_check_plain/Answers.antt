@@ -1,6 +1,5 @@
 -- `capi::grid_check_plain` meets its contract: the plain check's verdict, as exported.
 -- Assumes nothing.
-use borrow.Author.Rules.{rules}
 use Rattle.capi.proofs.grid_check_plain.Goals as goal
 
 pub returns : goal.returns

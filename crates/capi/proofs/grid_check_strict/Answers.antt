@@ -1,6 +1,5 @@
 -- `capi::grid_check_strict` meets its contract: the strict check's verdict, as exported.
 -- Assumes nothing.
-use borrow.Author.Rules.{rules}
 use Rattle.capi.proofs.grid_check_strict.Goals as goal
 
 pub returns : goal.returns

@@ -2,7 +2,6 @@
 use mathlib.Core.Path.{sym, ap, ◌∙◌}
 use Rattle.schedule.specs.Numbers.{chosen_numbers}
 use Rattle.capi.specs.Exported.{part_exported}
-use borrow.Author.Rules.{rules}
 use Rattle.capi.proofs.grid_choose.Goals as goal
 
 pub returns-in-Record : goal.returns-in-Record

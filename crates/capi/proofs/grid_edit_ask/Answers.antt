@@ -5,7 +5,6 @@ use Rattle.edit_rules.specs.declared.Editing.{Editing}
 use Rattle.edit_rules.specs.Keeping.{ask_state}
 use Rattle.capi.specs.Exported.{ask_exported}
 use Rattle.capi.specs.States.{edit_of, with_asked}
-use borrow.Author.Rules.{rules}
 use Rattle.capi.proofs.grid_edit_ask.Goals as goal
 
 pub returns : goal.returns

@@ -3,7 +3,6 @@
 use mathlib.Core.Path.{ap, ◌∙◌}
 use Rattle.capi.specs.Exported.{edit_exported}
 use Rattle.capi.specs.States.{edited_state}
-use borrow.Author.Rules.{rules}
 use Rattle.capi.proofs.grid_edit_clear.Goals as goal
 
 pub returns : goal.returns

@@ -5,7 +5,6 @@ use Rattle.edit_rules.specs.declared.Editing.{Editing}
 use Rattle.edit_rules.specs.Keeping.{keep_answer, keep_bytes}
 use Rattle.capi.specs.Exported.{edit_exported}
 use Rattle.capi.specs.States.{edited_state}
-use borrow.Author.Rules.{rules}
 use Rattle.capi.proofs.grid_edit_keep.Goals as goal
 
 pub returns : goal.returns

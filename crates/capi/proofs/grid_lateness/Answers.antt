@@ -1,6 +1,5 @@
 -- `capi::grid_lateness` meets its contract: the report's answer, as exported, and the list that it leaves.
 -- Assumes nothing.
-use borrow.Author.Rules.{rules}
 use Rattle.capi.proofs.grid_lateness.Goals as goal
 
 pub returns : goal.returns

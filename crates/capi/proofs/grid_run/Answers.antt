@@ -1,6 +1,5 @@
 -- `capi::grid_run` meets its contract: the run's answer, as exported, and the buffer that it leaves.
 -- Assumes nothing.
-use borrow.Author.Rules.{rules}
 use Rattle.capi.proofs.grid_run.Goals as goal
 
 pub returns : goal.returns

@@ -3,7 +3,6 @@ use mathlib.Core.Path.{sym, ap, ◌∙◌}
 use Rattle.schedule.specs.Numbers.{standing_numbers}
 use Rattle.capi.specs.Exported.{part_exported}
 use Rattle.capi.proofs.PairLaws.{pair-placed, pair-refused}
-use borrow.Author.Rules.{rules}
 use Rattle.capi.proofs.grid_stands.Goals as goal
 
 pub returns-in-First : goal.returns-in-First

@@ -1,5 +1,4 @@
 -- `capi::part_refusal` meets its contract: the number, and A in the place of the record. Assumes nothing.
-use borrow.Author.Rules.{rules}
 use Rattle.capi.proofs.part_refusal.Goals as goal
 
 pub returns : goal.returns

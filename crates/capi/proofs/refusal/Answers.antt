@@ -1,7 +1,6 @@
 -- `capi::refusal` meets its contract: the refusal's number, and its place.
 -- Assumes nothing.
 use mathlib.Core.Path.{ap, ◌∙◌}
-use borrow.Author.Rules.{rules}
 use Rattle.capi.specs.Exported.{refusal_exported}
 use Rattle.capi.proofs.refusal.Goals as goal
 

@@ -1,6 +1,5 @@
 -- `capi::run_answer` meets its contract: the figures with the length, or the refusal.
 -- Assumes nothing.
-use borrow.Author.Rules.{rules}
 use Rattle.capi.proofs.run_answer.Goals as goal
 
 pub returns-in-Accepted : goal.returns-in-Accepted

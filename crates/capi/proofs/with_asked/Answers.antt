@@ -4,7 +4,6 @@ use mathlib.Core.Bool.{true, false}
 use mathlib.Core.Path.{refl, sym, ap}
 use Rattle.capi.specs.States.{with_asked}
 use Rattle.capi.proofs.AskedLaws.{written}
-use borrow.Author.Rules.{rules}
 use Rattle.capi.proofs.with_asked.Goals as goal
 
 pub returns-in_default : goal.returns-in_default
