@@ -30,10 +30,14 @@ def line(answer):
     return answer if answer.startswith((DONE, VERDICT)) else f"refused {answer}"
 
 
-def edits(shows, model_bytes, plan_bytes, calls, after=None, misread=""):
+def case(shows, model_bytes, plan_bytes, calls, after=None, misread=""):
     lines = [line(answer) for *_, answer in calls]
     answers = "; ".join(answer for *_, answer in calls)
-    EDITS.append((model_bytes, plan_bytes, [call[:3] for call in calls], lines, after or plan_bytes, shows, answers, misread))
+    return model_bytes, plan_bytes, [call[:3] for call in calls], lines, after or plan_bytes, shows, answers, misread
+
+
+def edits(*given, **named):
+    EDITS.append(case(*given, **named))
 
 
 def s_rows(**rows):

@@ -7,18 +7,20 @@
 // ticks; then how many cases of the splitter, and for each its input; then how many cases of the report, and for each its
 // model, its choice and how many rows are lent; then how many pairs of wrapped records, and for each the two; then how many
 // files of them, and for each the file; then how many cases of edits, and for each its model, its plan and how many calls, and
-// for each of these which call it is (0 a clear, 1 a mark, 2 an ask for a clear, 3 an ask for a mark, 4 a keep), the activity
-// and the tick, both 0 for a keep. Each record, input and file stands behind its length. These numbers take 4 bytes each, a tick
-// of a view 8, big-endian.
+// for each of these which call it is (0 a clear, 1 a mark), the activity and the tick; then how many cases of edits through a
+// state, and for each the same, with 2 for an ask for a clear, 3 for an ask for a mark and 4 for a keep, of which the activity
+// and the tick are 0. Each record, input and file stands behind its length. These numbers take 4 bytes each, a tick of a view 8,
+// big-endian.
 //
 // For each case a line with its number, then the lines that gridcheck, gridrun or gridlate prints of it; of a run also the
 // buffer afterwards, byte by byte in decimal; of a view what its making answers, and at each tick its word, in decimal, or past;
 // of the splitter the bytes of the two records; of a report also the list afterwards; of a pair which one stands and of a file
-// which record is chosen, from which byte on and how many, or the refusal, and the bytes that are handed back; of edits, which
-// begin with nothing asked, what each call answers, an unrefused ask its verdict, and the plan afterwards.
+// which record is chosen, from which byte on and how many, or the refusal, and the bytes that are handed back; of edits
+// what each call answers and the plan afterwards; of edits through a state, which begins with nothing asked, the same, and of an
+// unrefused ask its verdict.
 #![tactic(auto)]
 
-ghost use Rattle.std.specs.Prelude.{◌≡◌, ◌≤◌, length};
+ghost use Rattle.std.specs.Prelude.{◌≡◌, ◌≤◌, length, take};
 ghost use Rattle.schedule.specs.Numbers.{word_numbers};
 ghost use Rattle.schedule.specs.Streams.{view_word};
 
@@ -42,6 +44,7 @@ enum Kind {
     Pair,
     File,
     Edits,
+    Keeps,
 }
 
 // Reads into the buffer and answers how many bytes came, which are fewer than it holds where the file ends.
@@ -63,7 +66,8 @@ fn next_number<R: Read>(cases: &mut R) -> u32 {
 
 // Reads the next record into the start of the buffer and answers its length; 0 where the buffer is too short.
 fn next_record<R: Read>(cases: &mut R, buf: &mut [u8]) -> usize
-    ensures { result ≤ length buf.new }
+    ensures within { result ≤ length buf.new }
+    ensures taken { result ≡ length (take result buf.new) }
 {
     let n = next_number(cases) as usize;
     if buf.len() < n {
@@ -322,6 +326,41 @@ fn print_edited<W: Write>(out: &mut W, answer: Edited) -> io::Result<()> {
     }
 }
 
+// Reads the next call, a mark or a clear, and makes it.
+fn next_call<R: Read>(cases: &mut R, model: &[u8], plan: &mut [u8]) -> Edited {
+    let marks = next_number(cases) == 1;
+    let activity = next_number(cases);
+    let tick = next_number(cases);
+    if marks {
+        edits::mark(model, plan, activity, tick)
+    } else {
+        edits::clear(model, plan, activity, tick)
+    }
+}
+
+// Reads the next calls on a plan, as many as the file says, and prints what each answers, and the plan afterwards.
+fn next_calls<R: Read, W: Write>(
+    cases: &mut R,
+    out: &mut W,
+    model: &[u8],
+    plan: &mut [u8],
+) -> io::Result<()> {
+    let count = next_number(cases);
+    for _ in 0..count {
+        print_edited(out, next_call(cases, model, plan))?;
+    }
+    print_bytes(out, "plan", plan)
+}
+
+// Reads the next case of edits and prints it.
+fn next_edits<R: Read, W: Write>(cases: &mut R, out: &mut W) -> io::Result<()> {
+    let mut model = [0u8; 1024];
+    let mut plan = [0u8; 17189];
+    let m = next_record(cases, &mut model);
+    let p = next_record(cases, &mut plan);
+    next_calls(cases, out, &model[..m], &mut plan[..p])
+}
+
 // Prints what a keep answers.
 fn print_kept<W: Write>(out: &mut W, answer: Kept) -> io::Result<()> {
     match answer {
@@ -400,7 +439,7 @@ fn edit<W: Write>(
 }
 
 // Reads the next call of an editor, makes it, and hands on the state.
-fn next_call<R: Read, W: Write>(
+fn next_step<R: Read, W: Write>(
     cases: &mut R,
     out: &mut W,
     state: Editing,
@@ -422,8 +461,8 @@ fn next_call<R: Read, W: Write>(
     edit(out, state, model, plan, kind, e)
 }
 
-// Reads the next calls on a plan, as many as the file says, and prints what each answers, and the plan afterwards.
-fn next_calls<R: Read, W: Write>(
+// Reads the next calls of an editor on a plan, as many as the file says, and prints what each answers, and the plan afterwards.
+fn next_steps<R: Read, W: Write>(
     cases: &mut R,
     out: &mut W,
     model: &[u8],
@@ -432,18 +471,18 @@ fn next_calls<R: Read, W: Write>(
     let count = next_number(cases);
     let mut state = edits::begin();
     for _ in 0..count {
-        state = next_call(cases, out, state, model, plan)?;
+        state = next_step(cases, out, state, model, plan)?;
     }
     print_bytes(out, "plan", plan)
 }
 
-// Reads the next case of edits and prints it.
-fn next_edits<R: Read, W: Write>(cases: &mut R, out: &mut W) -> io::Result<()> {
+// Reads the next case of edits through a state and prints it.
+fn next_keeps<R: Read, W: Write>(cases: &mut R, out: &mut W) -> io::Result<()> {
     let mut model = [0u8; 1024];
     let mut plan = [0u8; 17189];
     let m = next_record(cases, &mut model);
     let p = next_record(cases, &mut plan);
-    next_calls(cases, out, &model[..m], &mut plan[..p])
+    next_steps(cases, out, &model[..m], &mut plan[..p])
 }
 
 // Reads the next case of a kind and prints what its call answers.
@@ -458,6 +497,7 @@ fn next<R: Read, W: Write>(cases: &mut R, out: &mut W, kind: Kind) -> io::Result
         Kind::Pair => next_pair(cases, out),
         Kind::File => next_file(cases, out),
         Kind::Edits => next_edits(cases, out),
+        Kind::Keeps => next_keeps(cases, out),
     }
 }
 
@@ -484,5 +524,6 @@ fn main(rt: HostRuntime) -> io::Result<()> {
     all(&mut cases, &mut out, Kind::Pair)?;
     all(&mut cases, &mut out, Kind::File)?;
     all(&mut cases, &mut out, Kind::Edits)?;
+    all(&mut cases, &mut out, Kind::Keeps)?;
     out.flush()
 }
