@@ -34,7 +34,7 @@ fn check_written(model: &[u8], out: &[u8], written: Written) -> Checked
 
 // The priority run, and both checks of the plan that it wrote into the lent buffer.
 pub fn run_checked(model: &[u8], choice: &[u8], out: &mut [u8]) -> Checked
-    ensures result_value { (checked_numbers result ≡ checked_run model.now choice.now out.old)
+    ensures answered { (checked_numbers result ≡ checked_run model.now choice.now out.old)
         × (out.new ≡ run_buffer model.now choice.now out.old) }
     ensures keeps_demand3 { KeepsDemand3 model.now choice.now out.old out.new
         (checked_numbers result) }

@@ -112,7 +112,7 @@ fn breaking(
     a: Activity,
 ) -> u32
     requires counted { Counted (model s.now) (plan r.now) outside tables.now }
-    requires a_bound { a.0 < (model s.now).activities }
+    requires in_page { a.0 < (model s.now).activities }
     ensures { result ≡ broken_mask (activity_rule rule (model s.now) (plan r.now)) a.0 }
 {
     let sizes = records::model::counts(s);

@@ -13,9 +13,9 @@ use ticks::let_go;
 
 // The latest that a's predecessors let go, where a table says when each activity is done.
 fn after(s: &[u8], n: u8, a: Activity, delays: &[u32; 32], done: &[u32; 32]) -> u32
-    requires n_bound { n ≤ 32 }
-    requires by_index { (b : ℕ) → b < n → get_or delays.now b 0 ≡ (model s.now).delay b }
-    requires by_index_2 { (b : ℕ) → b < n → get_or done.now b 0 < 2147483648 }
+    requires few { n ≤ 32 }
+    requires delays_read { (b : ℕ) → b < n → get_or delays.now b 0 ≡ (model s.now).delay b }
+    requires done_small { (b : ℕ) → b < n → get_or done.now b 0 < 2147483648 }
     ensures { result ≡ after (model s.now) n (λ b. get_or done.now b 0) a.0 }
 {
     let row = records::model::activity_row(s, a);
@@ -39,9 +39,9 @@ fn after(s: &[u8], n: u8, a: Activity, delays: &[u32; 32], done: &[u32; 32]) -> 
 
 // The earliest that a could start with cores enough, where a table says when its predecessors could be finished.
 fn earliest(s: &[u8], r: &[u8], n: u8, a: Activity, delays: &[u32; 32], done: &[u32; 32]) -> u32
-    requires n_bound { n ≤ 32 }
-    requires by_index { (b : ℕ) → b < n → get_or delays.now b 0 ≡ (model s.now).delay b }
-    requires by_index_2 { (b : ℕ) → b < n → get_or done.now b 0 < 2147483648 }
+    requires few { n ≤ 32 }
+    requires delays_read { (b : ℕ) → b < n → get_or delays.now b 0 ≡ (model s.now).delay b }
+    requires done_small { (b : ℕ) → b < n → get_or done.now b 0 < 2147483648 }
     ensures { result ≡ max ((plan r.now).release ((model s.now).thread a.0))
         (after (model s.now) n (λ b. get_or done.now b 0) a.0) }
 {
@@ -52,10 +52,10 @@ fn earliest(s: &[u8], r: &[u8], n: u8, a: Activity, delays: &[u32; 32], done: &[
 
 // When each activity could be finished with cores enough: efe(a) + count(a).
 pub(crate) fn finishes(s: &[u8], r: &[u8], counts: &[u32; 32], delays: &[u32; 32]) -> [u32; 32]
-    requires s_bound { (model s.now).activities ≤ 32 }
+    requires few { (model s.now).activities ≤ 32 }
     requires ordered { Ordered (model s.now) }
-    requires table_of { TableOf (model s.now) counts.now (count_of (model s.now) (plan r.now)) }
-    requires table_of_2 { TableOf (model s.now) delays.now (model s.now).delay }
+    requires counts_read { TableOf (model s.now) counts.now (count_of (model s.now) (plan r.now)) }
+    requires delays_read { TableOf (model s.now) delays.now (model s.now).delay }
     ensures { TableOf (model s.now) result (finish_of (model s.now) (plan r.now)) }
 {
     let sizes = records::model::counts(s);
@@ -78,9 +78,9 @@ pub(crate) fn froms(
     ends: &[u32; 32],
     delays: &[u32; 32],
 ) -> [u32; 32]
-    requires s_bound { (model s.now).activities ≤ 32 }
-    requires by_index { (b : ℕ) → b < (model s.now).activities → get_or ends.now b 0 < 2147483648 }
-    requires table_of { TableOf (model s.now) delays.now (model s.now).delay }
+    requires few { (model s.now).activities ≤ 32 }
+    requires ends_small { (b : ℕ) → b < (model s.now).activities → get_or ends.now b 0 < 2147483648 }
+    requires delays_read { TableOf (model s.now) delays.now (model s.now).delay }
     ensures { TableOf (model s.now) result
         (from_of (model s.now) finishes.now counts.now ends.now) }
 {

@@ -45,7 +45,7 @@ fn over(
     tables: &Tables,
 ) -> Pass
     requires counted { Counted (model s.now) (plan r.now) outside tables.now }
-    requires widths_value { widths ≡ widths_of (model s.now) }
+    requires widths_read { widths ≡ widths_of (model s.now) }
     ensures { pass_numbers result ≡ break (rule_of rule (model s.now) (plan r.now)) }
 {
     match rule {

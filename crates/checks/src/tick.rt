@@ -183,7 +183,7 @@ pub(crate) fn over_ticks(
     tables: &Tables,
 ) -> Pass
     requires tabulated { Tabulated (model s.now) (plan r.now) tables.now }
-    requires widths_value { widths ≡ widths_of (model s.now) }
+    requires widths_read { widths ≡ widths_of (model s.now) }
     ensures { pass_numbers result ≡ break (tick_rule rule (model s.now) (plan r.now)) }
 {
     let sizes = records::model::counts(s);

@@ -24,8 +24,8 @@ struct Lines {
 // The two lines for the bytes that are taken as all there is.
 fn verdicts(taken: &[u8]) -> Lines
     requires { length taken.now ≤ input_limit }
-    ensures length_in_bounds { result.length ≤ length result.bytes }
-    ensures length_value { (result.length ≡ length (gridcheck taken.now))
+    ensures fits { result.length ≤ length result.bytes }
+    ensures text { (result.length ≡ length (gridcheck taken.now))
         × (take result.length result.bytes ≡ gridcheck taken.now) }
 {
     let model = streams::first_record(taken);
@@ -39,9 +39,9 @@ fn verdicts(taken: &[u8]) -> Lines
 
 // The two lines for the first bytes of the input, as many as were read. The array that is read into has the limit's length.
 fn answer(input: &[u8; LIMIT], read: usize) -> Lines
-    ensures input_len { length input.now ≡ input_limit }
-    ensures length_in_bounds { result.length ≤ length result.bytes }
-    ensures length_value { (result.length ≡ length (gridcheck (take read input.now)))
+    ensures limit { length input.now ≡ input_limit }
+    ensures fits { result.length ≤ length result.bytes }
+    ensures text { (result.length ≡ length (gridcheck (take read input.now)))
         × (take result.length result.bytes ≡ gridcheck (take read input.now)) }
 {
     let all = &input[..];

@@ -28,8 +28,8 @@ struct Lines {
 // The lines for the bytes that are taken as all there is.
 fn page(taken: &[u8]) -> Lines
     requires { length taken.now ≤ input_limit }
-    ensures length_in_bounds { result.length ≤ length result.bytes }
-    ensures length_value { (result.length ≡ length (gridrun taken.now))
+    ensures fits { result.length ≤ length result.bytes }
+    ensures text { (result.length ≡ length (gridrun taken.now))
         × (take result.length result.bytes ≡ gridrun taken.now) }
 {
     let model = streams::first_record(taken);
@@ -43,9 +43,9 @@ fn page(taken: &[u8]) -> Lines
 
 // The lines for the first bytes of the input, as many as were read. The array that is read into has the limit's length.
 fn answer(input: &[u8; LIMIT], read: usize) -> Lines
-    ensures input_len { length input.now ≡ input_limit }
-    ensures length_in_bounds { result.length ≤ length result.bytes }
-    ensures length_value { (result.length ≡ length (gridrun (take read input.now)))
+    ensures limit { length input.now ≡ input_limit }
+    ensures fits { result.length ≤ length result.bytes }
+    ensures text { (result.length ≡ length (gridrun (take read input.now)))
         × (take result.length result.bytes ≡ gridrun (take read input.now)) }
 {
     let all = &input[..];

@@ -10,11 +10,11 @@ returns-in-Accepted c =
     let kept = run-passed x.model.now x.choice.now x.out.now _ (λ i _. (c.type_inv.choice i).fits)
     c.run-answer.ensures.1 _ (sym c.run-answer.ensures.0 ∙ ap run_numbers c.in-Accepted.is) _
     c.check_written.ensures in
-    record { result_value = kept.0; keeps_demand3 = kept.1 }
+    record { answered = kept.0; keeps_demand3 = kept.1 }
 
 pub returns-in-Refused : goal.returns-in-Refused
 returns-in-Refused c =
     let x = c.args in
     let kept = run_sent_back x.model.now x.choice.now x.out.now _ (λ i _. (c.type_inv.choice i).fits)
     c.run-answer.ensures.1 _ (sym c.run-answer.ensures.0 ∙ ap run_numbers c.in-Refused.is) in
-    record { result_value = kept.0; keeps_demand3 = kept.1 }
+    record { answered = kept.0; keeps_demand3 = kept.1 }

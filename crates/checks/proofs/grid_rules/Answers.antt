@@ -42,7 +42,7 @@ bounds-order-k c =
 pub over-pass-requires : goal.over-pass-requires
 over-pass-requires c = let l = c.loop-k in record {
   counted = l.invariant.2;
-  widths_value = l.invariant.3;
+  widths_read = l.invariant.3;
 }
 
 pub returns-in-Refused : goal.returns-in-Refused

@@ -6,12 +6,12 @@ use Rattle.text.proofs.PrintedLaws.{printed_le}
 use Rattle.gridlate.proofs.AnswerLaws.{answered}
 use Rattle.gridlate.proofs.listing.Goals as goal
 
-pub returns-clause-length_in_bounds : goal.returns-clause-length_in_bounds
-returns-clause-length_in_bounds c = omega (arith, printed_le _ _ c.late_lines-length.ensures)
+pub returns-clause-fits : goal.returns-clause-fits
+returns-clause-fits c = omega (arith, printed_le _ _ c.late_lines-length.ensures)
 
-pub returns-clause-length_value : goal.returns-clause-length_value
+pub returns-clause-text : goal.returns-clause-text
 unfolding sizes_of
-returns-clause-length_value c =
+returns-clause-text c =
     answered c.args.taken.now _ _ _ _ _ _ c.requires (λ i _. (c.type_inv.taken i).fits) c.first_record-model.ensures.0
     c.second_record-choice.ensures.0 (ap (λ (r : Sizes). r.activities) c.counts-sizes.ensures)
     c.lateness-verdict.ensures.0 c.lateness-verdict.ensures.1 (omega arith) c.late_lines-length.ensures

@@ -1,5 +1,5 @@
 -- What came lies within the buffer, the bytes behind it are the caller's, and those before it are what the reader lost. The
--- measure is what is left of the buffer.
+-- measure is what is left of the buffer. Assumes nothing.
 use Rattle.std.proofs.Common.{length, ◌-◌, ◌≡◌, ◌≤◌, take, drop}
 use Rattle.std.specs.Io.KnownBytes.{Consumes}
 use Rattle.input.proofs.fill.Given as goal

@@ -1,4 +1,4 @@
--- The buffer keeps its length, and a read that was interrupted took nothing.
+-- The buffer keeps its length, and a read that was interrupted took nothing. Assumes nothing.
 use Rattle.std.specs.Io.KnownBytes.{Keeps}
 use Rattle.input.proofs.read_some.Given as goal
 

@@ -1,4 +1,4 @@
--- So many bytes are pasted.
+-- So many bytes are pasted. Assumes nothing.
 use Rattle.std.proofs.Common.{◌≡◌}
 use Rattle.std.proofs.Math.Seq.{paste}
 use Rattle.input.proofs.store.Given as goal

@@ -16,7 +16,7 @@ use Rattle.checks.proofs.activity.breaking.Goals as goal
 
 pub window_holds-requires : goal.window_holds-requires
 window_holds-requires c =
-    c.requires.counted.strays c.args.a.0 c.requires.a_bound
+    c.requires.counted.strays c.args.a.0 c.requires.in_page
 
 pub early_mask-requires : goal.early_mask-requires
 unfolding sizes_of
@@ -45,7 +45,7 @@ returns-in-Count c =
     rw c.in-Count.is
     (flagged (rule22 m p) x.a.0 _ _ refl c.flag-in-Count.ensures
     (count-test m p x.a.0 _ _ c.count_holds.ensures
-    (c.at.ensures ∙ tables.count_ticks x.a.0 c.requires.a_bound)))
+    (c.at.ensures ∙ tables.count_ticks x.a.0 c.requires.in_page)))
 
 pub returns-in-Deadline : goal.returns-in-Deadline
 unfolding rule23 deadline_rule
@@ -89,5 +89,5 @@ returns-in-Eligible c =
     rw c.in-Eligible.is
     (flagged (rule27 m p) x.a.0 _ _ refl c.flag-in-Eligible.ensures
     (eligible-test m p x.a.0 _ _ _ _ c.less.ensures (ap (λ (y : Span). y.start) c.activity_row-span.ensures)
-    (c.at-in-Eligible-2.ensures ∙ tables.count_ticks x.a.0 c.requires.a_bound)
-    (c.at-in-Eligible.ensures ∙ tables.finish_ticks x.a.0 c.requires.a_bound)))
+    (c.at-in-Eligible-2.ensures ∙ tables.count_ticks x.a.0 c.requires.in_page)
+    (c.at-in-Eligible.ensures ∙ tables.finish_ticks x.a.0 c.requires.in_page)))

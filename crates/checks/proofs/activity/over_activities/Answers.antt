@@ -22,7 +22,7 @@ pub breaking-requires : goal.breaking-requires
 breaking-requires c =
     let l = c.loop-number in record {
       counted = l.invariant.2;
-      a_bound = omega (arith, l.invariant.1, c.loop-number-test.true);
+      in_page = omega (arith, l.invariant.1, c.loop-number-test.true);
     }
 
 pub returns-then-b-lt32 : goal.returns-then-b-lt32

@@ -46,7 +46,7 @@ loop-number-preserved c =
           ∙ ap₂ max l.invariant.1
           (term_reads _ _ l.number _ (get_or x.done.now l.number 0) _ _ _ _ _ c.let_go-free.ensures
           c.has.ensures c.has-in-loop-number.ensures c.at.ensures
-          (c.at-in-loop-number.ensures ∙ pre.by_index l.number less) (pre.by_index_2 l.number less) short)
+          (c.at-in-loop-number.ensures ∙ pre.delays_read l.number less) (pre.done_small l.number less) short)
           ∙ sym (greatest_next l.number _),
     )
 

@@ -14,7 +14,7 @@ loop-number-init c =
     let e = ap (λ (y : Sizes). y.activities) c.counts-sizes.ensures in (
       omega arith,
       e,
-      omega (arith, e, c.requires.s_bound),
+      omega (arith, e, c.requires.few),
       filled_none _,
       λ i. omega (arith, zeros_at 32 i),
       bytes_brief _ _ (λ i _. (c.type_inv.s i).fits)
@@ -26,9 +26,9 @@ earliest-requires c =
     let l = c.loop-number in
     let pre = c.requires in
     record {
-      n_bound = l.invariant.2;
-      by_index = λ b h. pre.table_of_2 b (omega (arith, h, l.invariant.1));
-      by_index_2 = λ b _. omega (arith, l.invariant.4 b, l.invariant.2, l.invariant.0);
+      few = l.invariant.2;
+      delays_read = λ b h. pre.delays_read b (omega (arith, h, l.invariant.1));
+      done_small = λ b _. omega (arith, l.invariant.4 b, l.invariant.2, l.invariant.0);
     }
 
 pub at-requires : goal.at-requires
@@ -37,7 +37,7 @@ at-requires c = omega arith
 pub overflow_add-table : goal.overflow_add-table
 overflow_add-table c =
     let l = c.loop-number in
-    let next = entry_next _ _ c.requires.ordered l.invariant.5 c.args.counts.now c.requires.table_of l.table l.number _ _ _
+    let next = entry_next _ _ c.requires.ordered l.invariant.5 c.args.counts.now c.requires.counts_read l.table l.number _ _ _
     l.invariant.1 c.loop-number-test.true l.invariant.3 l.invariant.4 c.earliest.ensures c.at.ensures in
     omega (arith, next.1, l.invariant.0, l.invariant.2)
 
@@ -59,7 +59,7 @@ loop-number-smaller c = omega arith
 pub loop-number-preserved : goal.loop-number-preserved
 loop-number-preserved c =
     let l = c.loop-number in
-    let next = entry_next _ _ c.requires.ordered l.invariant.5 c.args.counts.now c.requires.table_of l.table l.number _ _ _
+    let next = entry_next _ _ c.requires.ordered l.invariant.5 c.args.counts.now c.requires.counts_read l.table l.number _ _ _
     l.invariant.1 c.loop-number-test.true l.invariant.3 l.invariant.4 c.earliest.ensures c.at.ensures in (
       omega arith,
       l.invariant.1,

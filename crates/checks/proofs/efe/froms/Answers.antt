@@ -13,7 +13,7 @@ pub loop-number-init : goal.loop-number-init
 unfolding sizes_of
 loop-number-init c =
     let e = ap (λ (y : Sizes). y.activities) c.counts-sizes.ensures in
-    (omega arith, e, omega (arith, e, c.requires.s_bound), filled_none _)
+    (omega arith, e, omega (arith, e, c.requires.few), filled_none _)
 
 pub at-requires : goal.at-requires
 at-requires c = omega arith
@@ -26,9 +26,9 @@ after-requires c =
     let l = c.loop-number in
     let pre = c.requires in
     record {
-      n_bound = l.invariant.2;
-      by_index = λ b h. pre.table_of b (omega (arith, h, l.invariant.1));
-      by_index_2 = λ b h. pre.by_index b (omega (arith, h, l.invariant.1));
+      few = l.invariant.2;
+      delays_read = λ b h. pre.delays_read b (omega (arith, h, l.invariant.1));
+      done_small = λ b h. pre.ends_small b (omega (arith, h, l.invariant.1));
     }
 
 pub overflow_cast-table : goal.overflow_cast-table

@@ -16,10 +16,10 @@ finishes-finishes-requires c =
     let few = c.requires.activities.1 in
     let counts = count-table m (plan c.args.r.now) _ few c.counts-counts.ensures in
     record {
-      s_bound = few;
+      few = few;
       ordered = c.requires.ordered;
-      table_of = counts;
-      table_of_2 = by_table m _ _ few c.table-delays.ensures;
+      counts_read = counts;
+      delays_read = by_table m _ _ few c.table-delays.ensures;
     }
 
 pub froms-froms-requires : goal.froms-froms-requires
@@ -29,9 +29,9 @@ froms-froms-requires c =
     let few = c.requires.activities.1 in
     let ends = by_table m _ _ few c.table-ends.ensures in
     record {
-      s_bound = few;
-      by_index = λ b l. omega (arith, ends b l, end_lt c.args.r.now (λ i _. (c.type_inv.r i).fits) b);
-      table_of = by_table m _ _ few c.table-delays.ensures;
+      few = few;
+      ends_small = λ b l. omega (arith, ends b l, end_lt c.args.r.now (λ i _. (c.type_inv.r i).fits) b);
+      delays_read = by_table m _ _ few c.table-delays.ensures;
     }
 
 pub returns : goal.returns

@@ -56,7 +56,7 @@ returns-then-b-lt32 c =
     (width_lt x.s.now (λ i _. (c.type_inv.s i).fits))
     l.t _ _ _ _ x.widths c.word.type_inv
     (word_read x.r.now _ l.t _ c.words-grid.ensures.0 c.word.ensures)
-    l.invariant.3 c.requires.widths_value c.at-waitable.ensures.0 l.invariant.2 in
+    l.invariant.3 c.requires.widths_read c.at-waitable.ensures.0 l.invariant.2 in
     let few = (tick-shape x.rule m p).1 l.invariant.4.few in
     c.refused.ensures
     ∙ ap (λ (k : ℕ). some (record { number = k; A = l.t; B = c.first_breaking-b.result }))
@@ -84,7 +84,7 @@ loop-t-preserved c =
     (width_lt x.s.now (λ i _. (c.type_inv.s i).fits))
     l.t _ _ _ _ x.widths c.word.type_inv
     (word_read x.r.now _ l.t _ c.words-grid.ensures.0 c.word.ensures)
-    l.invariant.3 c.requires.widths_value c.at-waitable.ensures.0 l.invariant.2 in
+    l.invariant.3 c.requires.widths_read c.at-waitable.ensures.0 l.invariant.2 in
     let few = (tick-shape x.rule m p).1 l.invariant.4.few in (
       omega (arith, c.loop-t-test.true),
       l.invariant.1,

@@ -1,0 +1,130 @@
+// The stored cases of edits through a state: marks, clears, asks and keeps.
+use crate::{next_number, next_record, print_bytes, print_edited, print_numbers, print_refused};
+use edit_rules::{Edit, Editing, Kept, Step, Told};
+use schedule::{Figures, Verdict};
+use std::io;
+use std::io::{Read, Write};
+
+// Prints what a keep answers.
+fn print_kept<W: Write>(out: &mut W, answer: Kept) -> io::Result<()> {
+    match answer {
+        Kept::Done => writeln!(out, "done"),
+        Kept::Refused(why) => print_numbers(out, edits::unkept_numbers(why)),
+    }
+}
+
+// Prints the three figures.
+fn print_figures<W: Write>(out: &mut W, f: Figures) -> io::Result<()> {
+    writeln!(out, "accepted {} {} {}", f.usage, f.capacity, f.makespan)
+}
+
+// Prints the verdict that an ask tells.
+fn print_verdict<W: Write>(out: &mut W, verdict: Verdict) -> io::Result<()> {
+    write!(out, "verdict ")?;
+    match verdict {
+        Verdict::Accepted(f) => print_figures(out, f),
+        Verdict::Refused(x) => print_refused(out, x),
+    }
+}
+
+// Prints what an ask answers.
+fn print_told<W: Write>(out: &mut W, answer: Told) -> io::Result<()> {
+    match answer {
+        Told::Verdict(verdict) => print_verdict(out, verdict),
+        Told::Refused(why) => print_numbers(out, edits::reason_numbers(why)),
+    }
+}
+
+// Asks for an edit, prints what is told, and hands on the state.
+fn ask_for<W: Write>(
+    out: &mut W,
+    state: Editing,
+    model: &[u8],
+    plan: &[u8],
+    e: Edit,
+) -> io::Result<Editing> {
+    let step = edits::ask(state, model, plan, e);
+    print_told(out, step.answer)?;
+    Ok(step.state)
+}
+
+// Keeps what was asked for, prints what that answers, and hands on the state.
+fn keep<W: Write>(
+    out: &mut W,
+    state: Editing,
+    model: &[u8],
+    plan: &mut [u8],
+) -> io::Result<Editing> {
+    let step = edits::keep(state, model, plan);
+    print_kept(out, step.answer)?;
+    Ok(step.state)
+}
+
+// A mark for 1, and a clear otherwise.
+fn edited(state: Editing, model: &[u8], plan: &mut [u8], kind: u32, e: Edit) -> Step {
+    if kind == 1 {
+        return edits::mark_with(state, model, plan, e.activity, e.tick);
+    }
+    edits::clear_with(state, model, plan, e.activity, e.tick)
+}
+
+// Makes that edit, prints what it answers, and hands on the state.
+fn edit<W: Write>(
+    out: &mut W,
+    state: Editing,
+    model: &[u8],
+    plan: &mut [u8],
+    kind: u32,
+    e: Edit,
+) -> io::Result<Editing> {
+    let step = edited(state, model, plan, kind, e);
+    print_edited(out, step.answer)?;
+    Ok(step.state)
+}
+
+// Reads the next call of an editor, makes it, and hands on the state.
+fn next_step<R: Read, W: Write>(
+    cases: &mut R,
+    out: &mut W,
+    state: Editing,
+    model: &[u8],
+    plan: &mut [u8],
+) -> io::Result<Editing> {
+    let kind = next_number(cases);
+    let e = Edit {
+        on: kind == 1 || kind == 3,
+        activity: next_number(cases),
+        tick: next_number(cases),
+    };
+    if kind == 2 || kind == 3 {
+        return ask_for(out, state, model, plan, e);
+    }
+    if kind == 4 {
+        return keep(out, state, model, plan);
+    }
+    edit(out, state, model, plan, kind, e)
+}
+
+// Reads the next calls of an editor on a plan, as many as the file says, and prints what each answers, and the plan afterwards.
+fn next_steps<R: Read, W: Write>(
+    cases: &mut R,
+    out: &mut W,
+    model: &[u8],
+    plan: &mut [u8],
+) -> io::Result<()> {
+    let count = next_number(cases);
+    let mut state = edits::begin();
+    for _ in 0..count {
+        state = next_step(cases, out, state, model, plan)?;
+    }
+    print_bytes(out, "plan", plan)
+}
+
+// Reads the next case of edits through a state and prints it.
+pub fn next_case<R: Read, W: Write>(cases: &mut R, out: &mut W) -> io::Result<()> {
+    let mut model = [0u8; 1024];
+    let mut plan = [0u8; 17189];
+    let m = next_record(cases, &mut model);
+    let p = next_record(cases, &mut plan);
+    next_steps(cases, out, &model[..m], &mut plan[..p])
+}
