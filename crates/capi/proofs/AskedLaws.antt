@@ -5,14 +5,15 @@ use mathlib.Core.Bool.{Bool, true, false, cond}
 use mathlib.Core.Path.{◌≡◌, refl, sym, ap, ◌∙◌}
 use Rattle.schedule.specs.Answers.{Answer, accepted, refused}
 use Rattle.edit_rules.specs.declared.Edit.{Edit}
-use Rattle.edit_rules.specs.declared.Asked.{Asked}
+use Rattle.std.specs.Prelude.{Some, None}
+use Rattle.edit_rules.specs.Keeping.{Asked}
 use Rattle.edit_rules.specs.Edits.{edit_answer, if_unrefused}
 use Rattle.edit_rules.specs.Keeping.{nothing_asked, asking, edit_state, ask_state, keep_answer, keep_state}
 use Rattle.capi.specs.declared.GridEditing.{GridEditing}
 use Rattle.capi.specs.States.{edit_of, editing_of, with_asked, edited_state, HandedOn}
 
 -- what is asked is written, a mark as 1 and a clear as 2
-pub written : (g : GridEditing) (asked : Asked) (e : Edit) → asked ≡ Asked.Edit e → (on : Bool) → e.on ≡ on → (n : ℕ) → n ≡ cond on 1 2
+pub written : (g : GridEditing) (asked : Asked) (e : Edit) → asked ≡ Some e → (on : Bool) → e.on ≡ on → (n : ℕ) → n ≡ cond on 1 2
     → record { asked = n; activity = e.activity; tick = e.tick; total = g.total; counts = g.counts } ≡ with_asked g asked
 written g asked e is on was n number =
     ap (λ (k : ℕ). record { asked = k; activity = e.activity; tick = e.tick; total = g.total; counts = g.counts })
@@ -22,17 +23,17 @@ written g asked e is on was n number =
 -- ---- a state that is handed on
 
 -- what is written is read again, of either kind of edit and of none
-edit_back : (g : GridEditing) (on : Bool) (a t : ℕ) → editing_of (with_asked g (Asked.Edit (edit_of on a t))) ≡ asking (edit_of on a t)
+edit_back : (g : GridEditing) (on : Bool) (a t : ℕ) → editing_of (with_asked g (Some (edit_of on a t))) ≡ asking (edit_of on a t)
 edit_back g true a t = refl
 edit_back g false a t = refl
 
 read_back : (g : GridEditing) (asked : Asked) → editing_of (with_asked g asked) ≡ record { asked = asked }
-read_back g Asked.Nothing = refl
-read_back g (Asked.Edit e) = edit_back g e.on e.activity e.tick
+read_back g None = refl
+read_back g (Some e) = edit_back g e.on e.activity e.tick
 
 -- and a call that is refused hands back what was given
 edited_on : (said : Answer (Unit {0})) (g : GridEditing) → editing_of (edited_state said g) ≡ if_unrefused said nothing_asked (editing_of g)
-edited_on (accepted _) g = read_back g Asked.Nothing
+edited_on (accepted _) g = read_back g None
 edited_on (refused x) g = refl
 
 pub handed_on : HandedOn

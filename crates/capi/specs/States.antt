@@ -4,7 +4,8 @@
 use Rattle.std.specs.Prelude.{ℕ, Bool, cond, List, ◌≡◌, eqb}
 use Rattle.schedule.specs.Answers.{Answer}
 use Rattle.edit_rules.specs.declared.Edit.{Edit}
-use Rattle.edit_rules.specs.declared.Asked.{Asked}
+use Rattle.std.specs.Prelude.{Some, None}
+use Rattle.edit_rules.specs.Keeping.{Asked}
 use Rattle.edit_rules.specs.declared.Editing.{Editing}
 use Rattle.edit_rules.specs.Edits.{marking, clearing, edit_answer, if_unrefused}
 use Rattle.edit_rules.specs.Keeping.{nothing_asked, asking, edit_state, ask_state, keep_answer, keep_state}
@@ -22,8 +23,8 @@ editing_of g =
 
 -- a state with something else asked, nothing being written as 0, 0, 0; the total and the counts are handed on
 abbrev pub with_asked : GridEditing → Asked → GridEditing
-with_asked g Asked.Nothing = record { asked = 0; activity = 0; tick = 0; total = g.total; counts = g.counts }
-with_asked g (Asked.Edit e) = record {
+with_asked g None = record { asked = 0; activity = 0; tick = 0; total = g.total; counts = g.counts }
+with_asked g (Some e) = record {
   asked = cond e.on 1 2;
   activity = e.activity;
   tick = e.tick;
@@ -33,7 +34,7 @@ with_asked g (Asked.Edit e) = record {
 
 -- the state after a mark, a clear or a keep: nothing is asked, or, where the call is refused, it is the one that was given
 abbrev pub edited_state : Answer (Unit {0}) → GridEditing → GridEditing
-edited_state said g = if_unrefused said (with_asked g Asked.Nothing) g
+edited_state said g = if_unrefused said (with_asked g None) g
 
 -- What an export hands back is read by the next as the state that the call has left: so what is said of every list of calls with the
 -- state handed on is said of the exports. All zeros is the state with which an editor begins.

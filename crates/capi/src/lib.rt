@@ -1,20 +1,20 @@
 // The exports for C and Rust: include/grid.h declares them.
 #![tactic(auto)]
 
-ghost use Rattle.std.specs.Prelude.{◌≡◌, length};
+ghost use Rattle.std.specs.Prelude.{◌≡◌, cond, length, None};
 ghost use Rattle.schedule.specs.Answers.{accepted, refused, plain_verdict, strict_verdict, run_answer, run_buffer};
 ghost use Rattle.schedule.specs.Report.{report_answer, report_rows};
 ghost use Rattle.schedule.specs.Exchange.{pair_part, file_answer};
-ghost use Rattle.schedule.specs.Numbers.{refusal_numbers, numbers_of, verdict_numbers, run_numbers, wrap_numbers, part_numbers};
+ghost use Rattle.schedule.specs.Numbers.{refusal_numbers, numbers_of, verdict_numbers, run_numbers, wrap_refusal, part_numbers};
 ghost use Rattle.edit_rules.specs.Edits.{marking, clearing, edit_answer, edit_bytes};
 ghost use Rattle.edit_rules.specs.EditNumbers.{edited_numbers, kept_numbers, told_numbers};
 ghost use Rattle.edit_rules.specs.Keeping.{asking, ask_answer, ask_state, keep_answer, keep_bytes};
 ghost use Rattle.capi.specs.Exported.{refusal_exported, verdict_exported, run_exported, part_exported, edit_exported, ask_exported};
 ghost use Rattle.capi.specs.States.{edit_of, editing_of, with_asked, edited_state};
 
-use edit_rules::{Asked, Edit, Edited, Editing, KeepStep, Kept, Step, Told};
+use edit_rules::{Edit, Edited, Editing, Kept, Step, Told};
 use numbers::{refusal_numbers, wrap_number};
-use schedule::{Chosen, Numbered, Part, Refusal, RunVerdict, Standing, Verdict, WrapRefusal};
+use schedule::{Numbered, Part, Refusal, RunVerdict, Side, Verdict, WrapRefused};
 
 // Number 0 for accepted, then usage, c times H, makespan, and the length of the run's plan (0 for a check and an ask), or zeros for
 // a mark, a clear or a keep; otherwise the refusal's number, A, B, 0, 0.
@@ -82,14 +82,14 @@ fn check_answer(v: Verdict) -> GridAnswer
     ensures { result ≡ verdict_exported (verdict_numbers v) }
 {
     match v {
-        Verdict::Accepted(f) => GridAnswer {
+        Ok(f) => GridAnswer {
             number: 0,
             first: f.usage,
             second: f.capacity,
             third: f.makespan,
             length: 0,
         },
-        Verdict::Refused(x) => refusal(x),
+        Err(x) => refusal(x),
     }
 }
 
@@ -97,7 +97,7 @@ fn run_answer(v: RunVerdict) -> GridAnswer
     ensures { result ≡ run_exported (run_numbers v) }
 {
     match v {
-        RunVerdict::Accepted(w) => {
+        Ok(w) => {
             let f = w.figures;
             GridAnswer {
                 number: 0,
@@ -107,7 +107,7 @@ fn run_answer(v: RunVerdict) -> GridAnswer
                 length: w.length,
             }
         }
-        RunVerdict::Refused(x) => refusal(x),
+        Err(x) => refusal(x),
     }
 }
 
@@ -115,14 +115,14 @@ fn edit_answer(v: Edited) -> GridAnswer
     ensures { result ≡ edit_exported (edited_numbers v) }
 {
     match v {
-        Edited::Done => GridAnswer {
+        Ok(()) => GridAnswer {
             number: 0,
             first: 0,
             second: 0,
             third: 0,
             length: 0,
         },
-        Edited::Refused(why) => numbered(edits::reason_numbers(why)),
+        Err(why) => numbered(edits::reason_numbers(why)),
     }
 }
 
@@ -130,8 +130,8 @@ fn keep_answer(v: Kept) -> GridAnswer
     ensures { result ≡ edit_exported (kept_numbers v) }
 {
     match v {
-        Kept::Done => edit_answer(Edited::Done),
-        Kept::Refused(why) => numbered(edits::unkept_numbers(why)),
+        Ok(()) => edit_answer(Ok(())),
+        Err(why) => numbered(edits::unkept_numbers(why)),
     }
 }
 
@@ -139,18 +139,18 @@ fn ask_answer(v: Told) -> GridAnswer
     ensures { result ≡ ask_exported (told_numbers v) }
 {
     match v {
-        Told::Verdict(verdict) => check_answer(verdict),
-        Told::Refused(why) => numbered(edits::reason_numbers(why)),
+        Ok(verdict) => check_answer(verdict),
+        Err(why) => numbered(edits::reason_numbers(why)),
     }
 }
 
-fn part_refusal(why: WrapRefusal, record: usize) -> GridPart
-    ensures { result ≡ part_exported (refused (wrap_numbers why «record»)) }
+fn part_refusal(x: WrapRefused) -> GridPart
+    ensures { result ≡ part_exported (refused (wrap_refusal x)) }
 {
     GridPart {
-        number: wrap_number(why),
+        number: wrap_number(x.why),
         zero: 0,
-        record: record as u64,
+        record: x.index as u64,
         offset: 0,
         length: 0,
     }
@@ -207,19 +207,18 @@ pub extern "C" fn grid_lateness(model: &[u8], choice: &[u8], rows: &mut [i32]) -
 pub extern "C" fn grid_stands(first: &[u8], second: &[u8]) -> GridPart
     ensures { result ≡ part_exported (pair_part first.now second.now) }
 {
-    let found = exchange::which_stands(first, second);
-    match found {
-        Standing::First => part(Part {
+    match exchange::which_stands(first, second) {
+        Ok(Side::First) => part(Part {
             index: 0,
             offset: 0,
             length: first.len(),
         }),
-        Standing::Second => part(Part {
+        Ok(Side::Second) => part(Part {
             index: 1,
             offset: 0,
             length: second.len(),
         }),
-        Standing::Refused(why, a) => part_refusal(why, a),
+        Err(x) => part_refusal(x),
     }
 }
 
@@ -228,10 +227,9 @@ pub extern "C" fn grid_stands(first: &[u8], second: &[u8]) -> GridPart
 pub extern "C" fn grid_choose(file: &[u8]) -> GridPart
     ensures { result ≡ part_exported (file_answer file.now) }
 {
-    let found = exchange::choose(file);
-    match found {
-        Chosen::Record(x) => part(x),
-        Chosen::Refused(why, a) => part_refusal(why, a),
+    match exchange::choose(file) {
+        Ok(x) => part(x),
+        Err(x) => part_refusal(x),
     }
 }
 
@@ -260,7 +258,7 @@ fn asking(mark: bool, activity: u32, tick: u32) -> Editing
     ensures { result ≡ asking (edit_of mark activity tick) }
 {
     Editing {
-        asked: Asked::Edit(Edit {
+        asked: Some(Edit {
             on: mark,
             activity,
             tick,
@@ -279,17 +277,15 @@ fn editing(given: GridEditing) -> Editing
     if kind == 2 {
         return asking(false, given.activity, given.tick);
     }
-    Editing {
-        asked: Asked::Nothing,
-    }
+    Editing { asked: None }
 }
 
 // The given state with something else asked.
-fn with_asked(given: GridEditing, asked: Asked) -> GridEditing
+fn with_asked(given: GridEditing, asked: Option<Edit>) -> GridEditing
     ensures { result ≡ with_asked given asked }
 {
     let counts = given.counts;
-    let Asked::Edit(e) = asked else {
+    let Some(e) = asked else {
         return GridEditing {
             asked: 0,
             activity: 0,
@@ -307,39 +303,32 @@ fn with_asked(given: GridEditing, asked: Asked) -> GridEditing
     }
 }
 
-// What a mark or a clear answered, with the state afterwards: where it is refused, the one that was given.
-fn edit_step(given: GridEditing, step: Step) -> GridStep
-    ensures { (result.answer ≡ edit_exported (edited_numbers step.answer))
-        × (result.state ≡ edited_state (edited_numbers step.answer) given) }
+// The state after an edit: where it is refused, the one that was given, and otherwise that one with nothing asked.
+fn state_after(given: GridEditing, done: bool) -> GridEditing
+    ensures { result ≡ cond done (with_asked given None) given }
 {
-    let said = step.answer;
-    let Edited::Done = said else {
-        return GridStep {
-            answer: edit_answer(said),
-            state: given,
-        };
-    };
+    if done { with_asked(given, None) } else { given }
+}
+
+// What a mark or a clear answered, with the state afterwards.
+fn edit_step(given: GridEditing, said: Edited) -> GridStep
+    ensures { (result.answer ≡ edit_exported (edited_numbers said))
+        × (result.state ≡ edited_state (edited_numbers said) given) }
+{
     GridStep {
         answer: edit_answer(said),
-        state: with_asked(given, Asked::Nothing),
+        state: state_after(given, said.is_ok()),
     }
 }
 
 // The same of a keep.
-fn keep_step(given: GridEditing, step: KeepStep) -> GridStep
-    ensures { (result.answer ≡ edit_exported (kept_numbers step.answer))
-        × (result.state ≡ edited_state (kept_numbers step.answer) given) }
+fn keep_step(given: GridEditing, said: Kept) -> GridStep
+    ensures { (result.answer ≡ edit_exported (kept_numbers said))
+        × (result.state ≡ edited_state (kept_numbers said) given) }
 {
-    let said = step.answer;
-    let Kept::Done = said else {
-        return GridStep {
-            answer: keep_answer(said),
-            state: given,
-        };
-    };
     GridStep {
         answer: keep_answer(said),
-        state: with_asked(given, Asked::Nothing),
+        state: state_after(given, said.is_ok()),
     }
 }
 
@@ -363,12 +352,9 @@ pub extern "C" fn grid_edit_ask(
         tick,
     };
     let step = edits::ask(editing(state), model, plan, e);
-    let next = step.state;
-    let asked = next.asked;
-    let said = step.answer;
     GridStep {
-        answer: ask_answer(said),
-        state: with_asked(state, asked),
+        answer: ask_answer(step.answer),
+        state: with_asked(state, step.state.asked),
     }
 }
 
@@ -380,7 +366,7 @@ pub extern "C" fn grid_edit_keep(state: GridEditing, model: &[u8], plan: &mut [u
         × (plan.new ≡ keep_bytes model.now plan.old (editing_of state).asked) }
 {
     let step = edits::keep(editing(state), model, plan);
-    keep_step(state, step)
+    keep_step(state, step.answer)
 }
 
 // An activity marked at a tick of the lent plan, with the state.
@@ -397,7 +383,7 @@ pub extern "C" fn grid_edit_mark(
         × (plan.new ≡ edit_bytes model.now plan.old (marking activity tick)) }
 {
     let step = edits::mark_with(editing(state), model, plan, activity, tick);
-    edit_step(state, step)
+    edit_step(state, step.answer)
 }
 
 // An activity cleared at a tick of the lent plan, with the state.
@@ -414,5 +400,5 @@ pub extern "C" fn grid_edit_clear(
         × (plan.new ≡ edit_bytes model.now plan.old (clearing activity tick)) }
 {
     let step = edits::clear_with(editing(state), model, plan, activity, tick);
-    edit_step(state, step)
+    edit_step(state, step.answer)
 }

@@ -9,30 +9,39 @@ use Rattle.schedule.specs.Fields.{Bytes}
 use Rattle.schedule.specs.Rule.{Refusal}
 use Rattle.schedule.specs.Answers.{accepted, refused, Written, plain_verdict, strict_verdict}
 use Rattle.schedule.specs.Answers.{run_answer, run_buffer}
-use Rattle.schedule.specs.Numbers.{refusal_numbers, verdict_numbers, written_numbers}
-use Rattle.schedule.specs.declared.RunVerdict.{RunVerdict}
+use Rattle.schedule.specs.declared.Written as declared
+use Rattle.schedule.specs.Numbers.{Verdict, refusal_numbers, verdict_numbers, written_numbers}
 use Rattle.laws.proofs.NumbersLaws.{refusal_injective, verdict_injective, run-verdict_injective}
 use Rattle.demands.specs.Strict.{PassesWith, plan_written, SingleStrictPlan}
 use Rattle.demands.proofs.Demand3.{demand_3}
 use Rattle.demands.proofs.Page.{formed, tested, roomy}
-use Rattle.checked_run.specs.declared.Checked.{Checked}
-use Rattle.checked_run.specs.Checked.{CheckedRun, checked_numbers, ran, sent_back, checked_of, checked_run, OnlyPlan, KeepsDemand3}
+use Rattle.std.specs.Prelude.{Ok, Err}
+use Rattle.checked_run.specs.declared.Ran.{Ran}
+use Rattle.checked_run.specs.Checked.{CheckedRun, Checked, checked_numbers, ran, sent_back, checked_of, checked_run, OnlyPlan, KeepsDemand3}
+
+-- a run is what it answered and the two verdicts
+ran_alike : (x y : Ran) → x.written ≡ y.written → x.plain ≡ y.plain → x.strict ≡ y.strict → x ≡ y
+ran_alike x y w p t =
+    let written : ◌≡◌ {A = Ran} x (record { written = y.written; plain = x.plain; strict = x.strict }) =
+    ap (λ (v : declared.Written). record { written = v; plain = x.plain; strict = x.strict }) w in
+    written
+    ∙ ap (λ (v : Verdict). record { written = y.written; plain = v; strict = x.strict }) p
+    ∙ ap (λ (v : Verdict). record { written = y.written; plain = y.plain; strict = v }) t
 
 -- no two answers say the same
 pub checked_injective : (x y : Checked) → checked_numbers x ≡ checked_numbers y → x ≡ y
-checked_injective (Checked.Ran w p t) (Checked.Ran w' p' t') e =
-    let written : accepted (written_numbers w) ≡ accepted (written_numbers w') = cc in
-    let plain : verdict_numbers p ≡ verdict_numbers p' = cc in
-    let strict : verdict_numbers t ≡ verdict_numbers t' = cc in
-    let ran-alike = run-verdict_injective (RunVerdict.Accepted w) (RunVerdict.Accepted w') written in
-    let plain-alike = verdict_injective p p' plain in
-    let strict-alike = verdict_injective t t' strict in
-    cc
-checked_injective (Checked.Ran w p t) (Checked.Refused x) e = let z : ◌≡◌ {A = ℕ} 0 1 = cc in absurd (omega arith)
-checked_injective (Checked.Refused x) (Checked.Ran w p t) e = let z : ◌≡◌ {A = ℕ} 0 1 = cc in absurd (omega arith)
-checked_injective (Checked.Refused x) (Checked.Refused y) e =
+checked_injective (Ok x) (Ok y) e =
+    let written : accepted (written_numbers x.written) ≡ accepted (written_numbers y.written) = cc in
+    let plain : verdict_numbers x.plain ≡ verdict_numbers y.plain = cc in
+    let strict : verdict_numbers x.strict ≡ verdict_numbers y.strict = cc in
+    let ran-alike = run-verdict_injective (Ok x.written) (Ok y.written) written in
+    ap Ok (ran_alike x y (let same : x.written ≡ y.written = cc in same) (verdict_injective x.plain y.plain plain)
+    (verdict_injective x.strict y.strict strict))
+checked_injective (Ok x) (Err y) e = let z : ◌≡◌ {A = ℕ} 0 1 = cc in absurd (omega arith)
+checked_injective (Err x) (Ok y) e = let z : ◌≡◌ {A = ℕ} 0 1 = cc in absurd (omega arith)
+checked_injective (Err x) (Err y) e =
     let same : refusal_numbers x ≡ refusal_numbers y = cc in
-    ap Checked.Refused (refusal_injective x y same)
+    ap Err (refusal_injective x y same)
 
 -- what the call promises: its answer, the buffer, and demand 3 of both
 abbrev Promised : List ℕ → List ℕ → List ℕ → List ℕ → CheckedRun → Type 0

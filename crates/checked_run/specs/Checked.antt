@@ -1,6 +1,6 @@
 -- What a run that has been checked answers, and what demand 3 says of the answers and of the lent buffer.
 -- Assumes nothing.
-use Rattle.std.specs.Prelude.{ℕ, ◌≤◌, List, ◌≡◌, length, take}
+use Rattle.std.specs.Prelude.{ℕ, ◌≤◌, List, ◌≡◌, length, take, Result, Ok, Err}
 use Rattle.schedule.specs.Rule
 use Rattle.schedule.specs.Model.{model}
 use Rattle.schedule.specs.Answers
@@ -8,7 +8,8 @@ use Rattle.schedule.specs.Answers.{Answer, accepted, refused, plain_verdict, str
 use Rattle.schedule.specs.Answers.{MeetsForm, PassesTests}
 use Rattle.schedule.specs.Numbers.{refusal_numbers, verdict_numbers, written_numbers}
 use Rattle.demands.specs.Strict.{PassesWith, Passes, plan_written}
-use Rattle.checked_run.specs.declared.Checked.{Checked}
+use Rattle.schedule.specs.declared.Refusal.{Refusal}
+use Rattle.checked_run.specs.declared.Ran.{Ran}
 
 -- the run's refusal; or its answer with the plain and the strict verdict on the plan that it wrote
 pub data CheckedRun : Type 0 where
@@ -16,9 +17,15 @@ pub data CheckedRun : Type 0 where
   sent_back : Rule.Refusal → CheckedRun
 
 -- what the declared answer says, in the paper's numbers
+abbrev pub ran_numbers : Ran → CheckedRun
+ran_numbers x = ran (written_numbers x.written) (verdict_numbers x.plain) (verdict_numbers x.strict)
+
+abbrev pub Checked : Type 0
+Checked = Result Ran Refusal
+
 abbrev pub checked_numbers : Checked → CheckedRun
-checked_numbers (Checked.Ran w plain strict) = ran (written_numbers w) (verdict_numbers plain) (verdict_numbers strict)
-checked_numbers (Checked.Refused x) = sent_back (refusal_numbers x)
+checked_numbers (Ok x) = ran_numbers x
+checked_numbers (Err x) = sent_back (refusal_numbers x)
 
 -- the answer for every model, choice and lent buffer
 unfoldable pub checked_of : List ℕ → List ℕ → List ℕ → Answer Answers.Written → CheckedRun

@@ -6,30 +6,35 @@
 ghost use Rattle.std.specs.Prelude.{◌≡◌, take};
 ghost use Rattle.schedule.specs.Answers.{plain_verdict, strict_verdict, run_buffer};
 ghost use Rattle.schedule.specs.Numbers.{written_numbers};
-ghost use Rattle.checked_run.specs.Checked.{ran, checked_numbers, checked_run, KeepsDemand3};
+ghost use Rattle.checked_run.specs.Checked.{ran, ran_numbers, checked_numbers, checked_run, KeepsDemand3};
 
-use schedule::{Refusal, RunVerdict, Verdict, Written};
+use schedule::{Refusal, Verdict, Written};
 
+// What a run that succeeded answered, and the plain and the strict verdict on the plan that it wrote.
 #[derive(Clone, Copy)]
-pub enum Checked {
-    // The run succeeded: its answer, and the plain and the strict verdict on the plan that it wrote.
-    Ran(Written, Verdict, Verdict),
-    // The run refused.
-    Refused(Refusal),
+pub struct Ran {
+    pub written: Written,
+    pub plain: Verdict,
+    pub strict: Verdict,
 }
+
+// That, or why the run refuses.
+pub type Checked = Result<Ran, Refusal>;
 
 // "The plan that a successful run wrote is the lent buffer's first bytes, as many as the length it answers": both verdicts
 // on it.
-fn check_written(model: &[u8], out: &[u8], written: Written) -> Checked
-    ensures { checked_numbers result
+fn check_written(model: &[u8], out: &[u8], written: Written) -> Ran
+    ensures { ran_numbers result
         ≡ ran (written_numbers written)
         (plain_verdict model.now (take written.length out.now))
         (strict_verdict model.now (take written.length out.now)) }
 {
     let plan = streams::front(out, written.length as usize);
-    let plain = checks::check_plain(model, plan);
-    let strict = checks::check_strict(model, plan);
-    Checked::Ran(written, plain, strict)
+    Ran {
+        written,
+        plain: checks::check_plain(model, plan),
+        strict: checks::check_strict(model, plan),
+    }
 }
 
 // The priority run, and both checks of the plan that it wrote into the lent buffer.
@@ -39,9 +44,6 @@ pub fn run_checked(model: &[u8], choice: &[u8], out: &mut [u8]) -> Checked
     ensures keeps_demand3 { KeepsDemand3 model.now choice.now out.old out.new
         (checked_numbers result) }
 {
-    let answer = run::run(model, choice, out);
-    match answer {
-        RunVerdict::Accepted(written) => check_written(model, out, written),
-        RunVerdict::Refused(why) => Checked::Refused(why),
-    }
+    let written = run::run(model, choice, out)?;
+    Ok(check_written(model, out, written))
 }

@@ -1,12 +1,12 @@
 -- What the code of rules 21 to 27 answers at an activity is the mask of the rule's broken places there.
 -- Assumes nothing.
-use Prim.Native.Nat.{ℕ, ◌+◌, ◌-◌, ◌≤◌, ◌<◌}
+use Prim.Native.Nat.{ℕ, ◌+◌, ◌-◌, ◌≤◌}
 use native.Mathlib.Nat.{add-zero}
 use native.Mathlib.Omega.{arith}
-use mathlib.Core.Bool.{Bool, true, ◌&&◌, not, cond}
+use mathlib.Core.Bool.{Bool, ◌&&◌, not, cond}
 use mathlib.Core.List.{List}
-use mathlib.Core.Path.{◌≡◌, refl, sym, subst, ap, ap₂, ◌∙◌}
-use lib.Dec.{T, leb, ltb, ltb→lt}
+use mathlib.Core.Path.{◌≡◌, refl, sym, ap, ap₂, ◌∙◌}
+use lib.Dec.{leb, ltb}
 use lib.ListN.{get_or}
 use Rattle.schedule.specs.declared.ActivityRule.{ActivityRule}
 use Rattle.schedule.specs.Bounded.{bit, word_of, ◌⇒◌}
@@ -17,7 +17,6 @@ use Rattle.schedule.specs.Plan.{Plan, plan, active}
 use Rattle.schedule.specs.Checks.{count_of, efe, window, rule22, rule25, rule26, rule27}
 use Rattle.schedule.specs.Opened.{check_rules}
 use Rattle.laws.proofs.Words.{wordOf_ext}
-use Rattle.laws.proofs.Tests.{T_and}
 use Rattle.records.specs.declared.plan.Span.{Span}
 use Rattle.records.specs.declared.model.Sizes.{Sizes}
 use Rattle.records.specs.Rows.{span_of, sizes_of}
@@ -33,10 +32,6 @@ pub window-row : (s r : List ℕ) (a : ℕ) (row : Span) (sizes : Sizes) → row
     && ((active (plan r) row.start a && active (plan r) (row.end - 1) a) && none_outside (model s) (plan r) a))
 unfolding window none_outside span_of sizes_of
 window-row s r a row sizes e f = rw (e, f)
-
--- a window that spans something ends after its start
-pub span_end : {spans : Bool} (start end horizon : ℕ) → spans ≡ (ltb start end && leb end horizon) → spans ≡ true → start < end
-span_end start end horizon e t = ltb→lt start end ((T_and (ltb start end) (leb end horizon)).0 (subst T (sym t ∙ e) tt)).0
 
 -- 25 and 26: the predecessors at which they are broken, from the tables
 pub temporal_mask : (m : Model) (p : Plan) (ends delays : List ℕ) (a preceding start n : ℕ) → preceding ≡ m.temporal_mask a

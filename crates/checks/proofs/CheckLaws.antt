@@ -15,10 +15,8 @@ use Rattle.schedule.specs.declared.Refusal.{Refusal}
 use Rattle.laws.proofs.FirstBreak.{none_iff, append_none, append_some}
 use Rattle.laws.proofs.Sound.{model_form_sound}
 use Rattle.records.specs.declared.model.Sizes.{Sizes}
-use Rattle.records.specs.declared.model.ModelRead.{ModelRead}
-use Rattle.records.specs.declared.plan.PlanRead.{PlanRead}
-use Rattle.records.specs.declared.Pass.{Pass}
-use Rattle.records.specs.Reads.{pass_numbers, model_read_numbers, plan_read_numbers}
+use Rattle.records.specs.Reads.{pass_numbers, model_read_numbers}
+use Rattle.std.specs.Prelude.{Result, Ok, Err}
 use Rattle.records.specs.Rows.{sizes_of}
 use Rattle.records.proofs.Reading.{answer-refuses, answer-accepts}
 use Rattle.checks.specs.Rules.{grid_rules, checks_of}
@@ -32,7 +30,7 @@ parts false s r = refl
 
 module _ (strict : Bool) (s r : List ℕ) where
   -- the model is refused
-  pub model_stops : (read : ModelRead) (x : Refusal) → read ≡ ModelRead.Refused x
+  pub model_stops : (read : Result Sizes Refusal) (x : Refusal) → read ≡ Err x
       → model_read_numbers read ≡ answer (first_break (model_form s)) (sizes_of (model s))
       → refused (refusal_numbers x) ≡ answer (first_break (checks_of strict s r)) (figures (model s) (plan r))
   unfolding answer
@@ -42,7 +40,7 @@ module _ (strict : Bool) (s r : List ℕ) where
       (sym (append_some (model_form s) (plan_form (model s) r ++ grid_rules strict (model s) (plan r)) (refusal_numbers x) first)
       ∙ ap first_break (parts strict s r))
 
-  module _ (read : ModelRead) (sizes : Sizes) (told : read ≡ ModelRead.Model sizes)
+  module _ (read : Result Sizes Refusal) (sizes : Sizes) (told : read ≡ Ok sizes)
       (e : model_read_numbers read ≡ answer (first_break (model_form s)) (sizes_of (model s))) where
     formed : first_break (model_form s) ≡ none
     formed = answer-accepts (first_break (model_form s)) (sizes_of (model s)) sizes (sym (ap model_read_numbers told) ∙ e)
@@ -54,19 +52,19 @@ module _ (strict : Bool) (s r : List ℕ) where
     past-model = sym (append_none (model_form s) _ formed) ∙ ap first_break (parts strict s r)
 
     -- the plan is refused
-    pub plan_stops : (form : PlanRead) (x : Refusal) → form ≡ PlanRead.Refused x
-        → plan_read_numbers form ≡ first_break (plan_form (model s) r)
+    pub plan_stops : (form : Result (Unit {0}) Refusal) (x : Refusal) → form ≡ Err x
+        → pass_numbers form ≡ first_break (plan_form (model s) r)
         → refused (refusal_numbers x) ≡ answer (first_break (checks_of strict s r)) (figures (model s) (plan r))
     unfolding answer
     plan_stops form x held f =
         ap (λ (o : Option Rule.Refusal). answer o (figures (model s) (plan r)))
-        (sym (append_some (plan_form (model s) r) _ (refusal_numbers x) (sym f ∙ ap plan_read_numbers held)) ∙ past-model)
+        (sym (append_some (plan_form (model s) r) _ (refusal_numbers x) (sym f ∙ ap pass_numbers held)) ∙ past-model)
 
     -- the rules of the plan decide
-    pub rules-answer : (form : PlanRead) → form ≡ PlanRead.Plan → plan_read_numbers form ≡ first_break (plan_form (model s) r)
-        → (pass : Pass) → pass_numbers pass ≡ first_break (grid_rules strict (model s) (plan r))
+    pub rules-answer : (form : Result (Unit {0}) Refusal) → form ≡ Ok tt → pass_numbers form ≡ first_break (plan_form (model s) r)
+        → (pass : Result (Unit {0}) Refusal) → pass_numbers pass ≡ first_break (grid_rules strict (model s) (plan r))
         → answer (pass_numbers pass) (figures (model s) (plan r))
         ≡ answer (first_break (checks_of strict s r)) (figures (model s) (plan r))
     rules-answer form held f pass g =
         ap (λ (o : Option Rule.Refusal). answer o (figures (model s) (plan r)))
-        (g ∙ sym (append_none (plan_form (model s) r) _ (sym f ∙ ap plan_read_numbers held)) ∙ past-model)
+        (g ∙ sym (append_none (plan_form (model s) r) _ (sym f ∙ ap pass_numbers held)) ∙ past-model)

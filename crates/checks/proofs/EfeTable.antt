@@ -42,13 +42,6 @@ after-parts m n done a =
     greatest_ext n _ _ (λ b _. term (temporally m b a) (by_data m b a) (done b) (m.delay b))
     ∙ split n (λ b. cond (temporally m b a) (done b + m.delay b) 0) (λ b. cond (by_data m b a) (done b) 0)
 
--- one predecessor's term by what it is: temporal, by data, or none
-pub term_temporal : (t d : Bool) (x y : ℕ) → t ≡ true → x + y ≡ cond t (x + y) (cond d x 0)
-term_temporal t d x y e = sym (ap (λ (b : Bool). cond b (x + y) (cond d x 0)) e)
-
-pub term_other : (t d v : Bool) (x y : ℕ) → t ≡ false → d ≡ v → cond v x 0 ≡ cond t (x + y) (cond d x 0)
-term_other t d v x y e f = sym (ap₂ (λ (b c : Bool). cond b (x + y) (cond c x 0)) e f)
-
 -- one predecessor's term, as the code reads it
 pub term_reads : (temporal on_data b done done' delay delay' free : ℕ) (t d : Bool)
     → free ≡ cond t (min (done + delay) 4294967295) (cond d done 0)

@@ -7,3 +7,4 @@ pub mod MaskRow
 pub mod ActivityLaws
 pub mod RuleOrder
 pub mod CheckLaws
+pub mod SizesRead

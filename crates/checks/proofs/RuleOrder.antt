@@ -27,10 +27,6 @@ in_order true m p = refl
 in_order false m p = refl
 
 -- the plain check's order is the front of the strict check's
-pub no_longer : (strict : Bool) → length (order_of strict) ≤ length strict_order
-no_longer true = omega arith
-no_longer false = omega arith
-
 pub same_place : (strict : Bool) (k : ℕ) (any : RuleRefusal) → k < length (order_of strict)
     → get_or strict_order k any ≡ get_or (order_of strict) k any
 same_place true k any l = refl

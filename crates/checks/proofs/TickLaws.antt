@@ -13,13 +13,13 @@ use lib.ListN.{get_or}
 use lib.Pow.{pow_mono}
 use borrow.Author.Tests.{le-leb, eq-eqb, ne_eqb}
 use Rattle.schedule.specs.declared.TickRule.{TickRule}
-use Rattle.schedule.specs.Bounded.{all, bit, lowest, with_bit, word_of}
+use Rattle.schedule.specs.Bounded.{all, bit, with_bit, word_of}
 use Rattle.schedule.specs.Model.{Model, priority_of}
 use Rattle.schedule.specs.Plan.{Plan, active}
 use Rattle.schedule.specs.Machine.{before}
 use Rattle.schedule.specs.Checks.{waits, cores_of, ahead, contends}
 use Rattle.schedule.specs.Opened.{check_rules}
-use Rattle.laws.proofs.Tests.{T_all, T_and}
+use Rattle.laws.proofs.Tests.{T_all, T_and, T_eqb}
 use Rattle.laws.proofs.Cores.{cores-more}
 use Rattle.laws.proofs.Counting.{T_ext, T_false}
 use Rattle.laws.proofs.Rank.{before-says, before_irreflexive}
@@ -34,7 +34,8 @@ use Rattle.tables.proofs.LoadLaws.{load_is, load-none}
 use Rattle.tables.proofs.TableLaws.{by_table, by_beyond, among-all}
 use Rattle.checks.specs.declared.tick.Snapshot.{Snapshot}
 use Rattle.checks.specs.Windows.{open_of, without}
-use Rattle.checks.specs.Tables.{ends, froms, befores, broken_mask, Tabulated}
+use Rattle.checks.specs.declared.page.Tables.{Tables}
+use Rattle.checks.specs.Tables.{broken_mask, Tabulated}
 use Rattle.checks.specs.Ticks.{tick_rule, any, rank_mask, outranking, outranking_of, Ranked, contending_mask}
 use Rattle.checks.specs.Ticks.{fits_from, contending_of, waiting_in, overloaded_of, contested_of, idle_of, breaking_of}
 use Rattle.checks.proofs.WaitLaws.{waits_when, idle_mask, preemption_mask, tie_mask, cores_mask}
@@ -84,12 +85,14 @@ nothing-shown rule widths outranked befores c = by rule
     by TickRule.Tie = sym (none_contested widths outranked befores c tick nobody)
 
 -- a tick that shows what another shows breaks nothing where that one does not
-pub shown_again : (breaks : Snapshot → ℕ) (tick passed : Snapshot) → tick.word ≡ passed.word → tick.opened ≡ passed.opened
-    → breaks passed ≡ 0 → 32 ≡ lowest 32 (bit (breaks tick))
-unfolding lowest bit
-shown_again breaks tick passed w o e =
-    let same : tick ≡ passed = λ i. record { word = w i; opened = o i } in
-    sym (ap (λ (x : ℕ). lowest 32 (bit x)) (ap breaks same ∙ e))
+pub shown_again : (breaks : Snapshot → ℕ) (tick passed : Snapshot)
+    → (eqb tick.word passed.word && eqb tick.opened passed.opened) ≡ true → breaks passed ≡ 0 → breaks tick ≡ 0
+shown_again breaks tick passed same e =
+    let both = (T_and (eqb tick.word passed.word) (eqb tick.opened passed.opened)).0 (subst T (sym same) tt) in
+    let w = (T_eqb tick.word passed.word).0 both.0 in
+    let o = (T_eqb tick.opened passed.opened).0 both.1 in
+    let alike : tick ≡ passed = λ i. record { word = w i; opened = o i } in
+    ap breaks alike ∙ e
 
 -- the word of fewer bits, where there are no others
 fewer_bits : (n : ℕ) (p q : ℕ → Bool) → n ≤ 32 → ((b : ℕ) → b < n → p b ≡ q b) → ((b : ℕ) → n ≤ b → p b ≡ false)
@@ -117,7 +120,7 @@ fewer_any n p q few h none = ap not same
           | no k ↦ subst (λ (x : Bool). T (not x)) (sym (none i (omega (arith, k)))) tt
         ]))
 
-module _ (m : Model) (p : Plan) (tables : List (List ℕ)) (h : Tabulated m p tables) where
+module _ (m : Model) (p : Plan) (tables : Tables) (h : Tabulated m p tables) where
   -- the word of the activities with a property has no other bits
   no_higher : (q : ℕ → Bool) (a : ℕ) → m.activities ≤ a → bit (word_of m.activities q) a ≡ false
   no_higher q a l =
@@ -126,7 +129,7 @@ module _ (m : Model) (p : Plan) (tables : List (List ℕ)) (h : Tabulated m p ta
 
   -- what is open and not active waits
   waiting_is : (t : ℕ)
-      → without (open_of m.activities (froms tables) (ends tables) t) (p.word t) ≡ word_of m.activities (waits m p t)
+      → without (open_of m.activities tables.froms tables.ends t) (p.word t) ≡ word_of m.activities (waits m p t)
   unfolding without open_of
   waiting_is t =
       fewer_bits m.activities _ (waits m p t) h.few
@@ -137,7 +140,7 @@ module _ (m : Model) (p : Plan) (tables : List (List ℕ)) (h : Tabulated m p ta
       (λ a l. ap (λ (x : Bool). x && not (active p t a)) (no_higher inside a l))
     where
       inside : ℕ → Bool
-      inside a = leb (get_or (froms tables) a 0) t && ltb t (get_or (ends tables) a 0)
+      inside a = leb (get_or tables.froms a 0) t && ltb t (get_or tables.ends a 0)
 
       swap : (x y : Bool) → (x && y) ≡ (y && x)
       swap true true = refl
@@ -169,7 +172,7 @@ module _ (m : Model) (p : Plan) (tables : List (List ℕ)) (h : Tabulated m p ta
   module _ (narrow : (a : ℕ) → m.width a < 256) (t : ℕ) (small : p.word t < 2 ^ 32) where
     -- the cores of an activity and of the active ones that rank before it
     ahead_is : (b : ℕ) → b < m.activities
-        → load_from (widths_of m) (with_bit (bit_and (p.word t) (get_or (befores tables) b 0)) b) ≡ m.width b + ahead m (active p t) b
+        → load_from (widths_of m) (with_bit (bit_and (p.word t) (get_or tables.befores b 0)) b) ≡ m.width b + ahead m (active p t) b
     unfolding before
     ahead_is b l =
         load_is m narrow (with_bit beside b) fits
@@ -182,10 +185,10 @@ module _ (m : Model) (p : Plan) (tables : List (List ℕ)) (h : Tabulated m p ta
         here = omega (arith, h.few)
 
         beside : ℕ
-        beside = bit_and (p.word t) (get_or (befores tables) b 0)
+        beside = bit_and (p.word t) (get_or tables.befores b 0)
 
         fits : with_bit beside b < 2 ^ 32
-        fits = with_lt beside b (lt_of_le_of_lt (and_le_l (p.word t) (get_or (befores tables) b 0)) small)
+        fits = with_lt beside b (lt_of_le_of_lt (and_le_l (p.word t) (get_or tables.befores b 0)) small)
 
         itself : bit (with_bit beside b) b ≡ true
         itself = bit_with beside b b here ∙ ap (λ (x : Bool). bit beside b || x) (eq-eqb b b refl) ∙ or-true (bit beside b)
@@ -198,28 +201,28 @@ module _ (m : Model) (p : Plan) (tables : List (List ℕ)) (h : Tabulated m p ta
             bit_with beside b i here
             ∙ ap (λ (x : Bool). bit beside i || x) (ne_eqb i b ne)
             ∙ or-false (bit beside i)
-            ∙ bit-bit_and (p.word t) (get_or (befores tables) b 0) i
-            ∙ ap (λ (x : ℕ). active p t i && bit x i) (ranked_below Order.Before (befores tables) h.before_masks b l)
+            ∙ bit-bit_and (p.word t) (get_or tables.befores b 0) i
+            ∙ ap (λ (x : ℕ). active p t i && bit x i) (ranked_below Order.Before tables.befores h.before_masks b l)
             ∙ ap (λ (x : Bool). active p t i && x) (bit_wordOf m.activities (λ i. ranks Order.Before (priority_of m) i b) i k))
 
     -- the waiting of a word that count
     contending_is : (x : ℕ) (q : ℕ → Bool) → ((b : ℕ) → b < m.activities → bit x b ≡ (waits m p t b && q b))
         → ((b : ℕ) → m.activities ≤ b → bit x b ≡ false)
-        → contending_of (widths_of m) (befores tables) (p.word t) m.cores x
+        → contending_of (widths_of m) tables.befores (p.word t) m.cores x
         ≡ word_of m.activities (λ b. contends m p t b && q b)
     unfolding contending_of fits_from contends
     contending_is x q known none =
         fewer_bits m.activities _ _ h.few
         (λ b l. ap₂ (λ (y : Bool) (k : ℕ). y && leb k m.cores) (known b l) (ahead_is b l)
         ∙ turned (waits m p t b) (q b) (leb (m.width b + ahead m (active p t) b) m.cores))
-        (λ b l. ap (λ (y : Bool). y && fits_from (widths_of m) (befores tables) (p.word t) m.cores b) (none b l))
+        (λ b l. ap (λ (y : Bool). y && fits_from (widths_of m) tables.befores (p.word t) m.cores b) (none b l))
       where
         turned : (a b c : Bool) → ((a && b) && c) ≡ ((a && c) && b)
         turned true true c = sym (and-true c)
         turned true false c = sym (and-false c)
         turned false b c = refl
 
-    waiting-contends : contending_of (widths_of m) (befores tables) (p.word t) m.cores (word_of m.activities (waits m p t))
+    waiting-contends : contending_of (widths_of m) tables.befores (p.word t) m.cores (word_of m.activities (waits m p t))
         ≡ contending_mask m p t
     unfolding contending_mask
     waiting-contends =
@@ -229,7 +232,7 @@ module _ (m : Model) (p : Plan) (tables : List (List ℕ)) (h : Tabulated m p ta
         ∙ wordOf_ext m.activities _ _ (λ b _. and-true (contends m p t b))
 
     outranking-contends : (n : ℕ) (mask : ℕ → ℕ)
-        → contending_of (widths_of m) (befores tables) (p.word t) m.cores
+        → contending_of (widths_of m) tables.befores (p.word t) m.cores
         (bit_and (word_of m.activities (waits m p t)) (outranking n mask (p.word t)))
         ≡ bit_and (contending_mask m p t) (outranking n mask (p.word t))
     unfolding contending_mask outranking
@@ -246,31 +249,31 @@ module _ (m : Model) (p : Plan) (tables : List (List ℕ)) (h : Tabulated m p ta
 
     -- the tick as the code sees it
     abbrev shown : Snapshot
-    shown = record { word = p.word t; opened = open_of m.activities (froms tables) (ends tables) t }
+    shown = record { word = p.word t; opened = open_of m.activities tables.froms tables.ends t }
 
     loaded : load_from (widths_of m) (p.word t) ≡ cores_of m (active p t)
     loaded = load_is m narrow (p.word t) small
 
     contested_is : (order : Order) (masks : List ℕ) → masks ≡ ranking_of order m
-        → contested_of (widths_of m) masks (befores tables) m.cores shown
+        → contested_of (widths_of m) masks tables.befores m.cores shown
         ≡ cond (eqb (cores_of m (active p t)) m.cores)
         (bit_and (contending_mask m p t) (outranking m.activities (rank_mask m order) (p.word t))) 0
     unfolding contested_of
     contested_is order masks e =
         ap₂ (λ (k x : ℕ). cond (eqb k m.cores) x 0) loaded
-        (ap₂ (λ (x y : ℕ). contending_of (widths_of m) (befores tables) (p.word t) m.cores (bit_and x y))
+        (ap₂ (λ (x y : ℕ). contending_of (widths_of m) tables.befores (p.word t) m.cores (bit_and x y))
         (waiting_is t) (outranking_is order masks e (p.word t))
         ∙ outranking-contends m.activities (rank_mask m order))
 
     -- the mask of a rule's broken places at a tick
     tick_mask : (rule : TickRule) (masks : List ℕ) → Ranked rule m masks
-        → breaking_of rule (widths_of m) masks (befores tables) m.cores shown ≡ broken_mask (tick_rule rule m p) t
+        → breaking_of rule (widths_of m) masks tables.befores m.cores shown ≡ broken_mask (tick_rule rule m p) t
     unfolding overloaded_of idle_of
     tick_mask TickRule.Cores masks r = ap (λ (k : ℕ). cond (leb k m.cores) 0 1) loaded ∙ sym (cores_mask m p t)
     tick_mask TickRule.Preemption masks r = contested_is Order.Higher masks r ∙ sym (preemption_mask m p t h.few)
     tick_mask TickRule.Idle masks r =
         ap₂ (λ (k x : ℕ). cond (ltb k m.cores) x 0) loaded
-        (ap (λ (x : ℕ). contending_of (widths_of m) (befores tables) (p.word t) m.cores x) (waiting_is t) ∙ waiting-contends)
+        (ap (λ (x : ℕ). contending_of (widths_of m) tables.befores (p.word t) m.cores x) (waiting_is t) ∙ waiting-contends)
         ∙ sym (idle_mask m p t)
     tick_mask TickRule.Tie masks r = contested_is Order.Level masks r ∙ sym (tie_mask m p t h.few)
 
@@ -284,16 +287,16 @@ tick-shape TickRule.Idle m p = (refl, λ h. h)
 tick-shape TickRule.Tie m p = (refl, λ h. h)
 
 -- the mask of a tick, from what the code reads: its word, its open windows, the cores and the widths
-pub tick_read : (rule : TickRule) (m : Model) (p : Plan) (tables : List (List ℕ)) (masks : List ℕ) → Tabulated m p tables
+pub tick_read : (rule : TickRule) (m : Model) (p : Plan) (tables : Tables) (masks : List ℕ) → Tabulated m p tables
     → Ranked rule m masks → ((a : ℕ) → m.width a < 256) → (t word cores n opened : ℕ) (widths : Widths)
     → word < 2 ^ 32 → word ≡ p.word t → cores ≡ m.cores → widths ≡ widths_of m
-    → opened ≡ open_of n (froms tables) (ends tables) t → n ≡ m.activities
-    → breaking_of rule widths masks (befores tables) cores (record { word = word; opened = opened })
+    → opened ≡ open_of n tables.froms tables.ends t → n ≡ m.activities
+    → breaking_of rule widths masks tables.befores cores (record { word = word; opened = opened })
     ≡ broken_mask (tick_rule rule m p) t
 tick_read rule m p tables masks h r narrow t word cores n opened widths small w c v o k =
-    ap₂ (λ (x : ℕ) (y : ℕ). breaking_of rule widths masks (befores tables) cores (record { word = x; opened = y })) w
-    (o ∙ ap (λ (x : ℕ). open_of x (froms tables) (ends tables) t) k)
-    ∙ ap₂ (λ (x : ℕ) (y : Widths). breaking_of rule y masks (befores tables) x (shown m p tables h narrow t known)) c v
+    ap₂ (λ (x : ℕ) (y : ℕ). breaking_of rule widths masks tables.befores cores (record { word = x; opened = y })) w
+    (o ∙ ap (λ (x : ℕ). open_of x tables.froms tables.ends t) k)
+    ∙ ap₂ (λ (x : ℕ) (y : Widths). breaking_of rule y masks tables.befores x (shown m p tables h narrow t known)) c v
     ∙ tick_mask m p tables h narrow t known rule masks r
   where
     known : p.word t < 2 ^ 32

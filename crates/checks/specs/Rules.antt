@@ -9,6 +9,7 @@ use Rattle.schedule.specs.Checks.{rule_of, plain_order, strict_order, plain_rule
 use Rattle.schedule.specs.Answers.{plain_checks, strict_checks}
 use Rattle.schedule.specs.declared.ActivityRule.{ActivityRule}
 use Rattle.schedule.specs.declared.RuleRefusal.{RuleRefusal}
+use Rattle.checks.specs.declared.page.Tables.{Tables}
 use Rattle.checks.specs.Tables.{Tabulated}
 
 abbrev pub activity_rule : ActivityRule → Model → Plan → Rule
@@ -24,7 +25,7 @@ early_from preceding start n ends delays =
     word_of n (λ b. not (bit preceding b ⇒ leb (get_or ends b 0 + get_or delays b 0) start))
 
 -- what the rules of activities need: the tables, and those active outside their window
-pub record Counted (m : Model) (p : Plan) (outside : ℕ) (tables : List (List ℕ)) : Type 0 where
+pub record Counted (m : Model) (p : Plan) (outside : ℕ) (tables : Tables) : Type 0 where
   pub tabulated : Tabulated m p tables
   pub strays : (a : ℕ) → a < m.activities → bit outside a ≡ not (none_outside m p a)
 

@@ -1,37 +1,23 @@
 -- What the checks keep in tables and masks, so that a tick costs a few operations on whole words.
 -- Assumes nothing.
-use Rattle.std.specs.Prelude.{ℕ, ◌+◌, ◌-◌, ◌≤◌, max, not, cond, List, [], ◌≡◌, get_or}
-use Rattle.schedule.specs.Bounded.{greatest, word_of}
+use Rattle.std.specs.Prelude.{ℕ, ◌+◌, ◌-◌, ◌<◌, ◌≤◌, max, not, cond, List, ◌≡◌, get_or, Option, MatchOption}
+use Rattle.schedule.specs.Bounded.{bit, greatest, lowest, word_of}
 use Rattle.schedule.specs.Model.{Model, temporally, by_data}
 use Rattle.schedule.specs.Plan.{Plan}
 use Rattle.schedule.specs.Rule.{Rule}
 use Rattle.schedule.specs.Checks.{count_of, efe}
 use Rattle.tables.specs.declared.ranking.Order.{Order}
+use Rattle.checks.specs.declared.page.Tables.{Tables}
 use Rattle.tables.specs.Columns.{TableOf}
 use Rattle.tables.specs.Ranking.{ranking_of}
-
--- the tables by what they hold
-abbrev pub counts : List (List ℕ) → List ℕ
-counts tables = get_or tables 0 []
-
-abbrev pub ends : List (List ℕ) → List ℕ
-ends tables = get_or tables 1 []
-
-abbrev pub delays : List (List ℕ) → List ℕ
-delays tables = get_or tables 2 []
-
-abbrev pub finishes : List (List ℕ) → List ℕ
-finishes tables = get_or tables 3 []
-
-abbrev pub froms : List (List ℕ) → List ℕ
-froms tables = get_or tables 4 []
-
-abbrev pub befores : List (List ℕ) → List ℕ
-befores tables = get_or tables 5 []
 
 -- the columns of row a at which a rule's test fails, as a word
 unfoldable pub broken_mask : Rule → ℕ → ℕ
 broken_mask r a = word_of r.columns (λ b. not (r.test a b))
+
+-- the first of the places in a mask: the lowest bit that is set, if one is
+abbrev pub FirstPlace : ℕ → Option ℕ → Type 0
+FirstPlace mask place = MatchOption place (mask ≡ 0) (λ b. (b < 32) × (b ≡ lowest 32 (bit mask)))
 
 -- the tick from which a can wait: its efe, and its predecessors' ends
 unfoldable pub waits_from : Model → Plan → ℕ → ℕ
@@ -54,11 +40,11 @@ from_of m done counted ended a =
     max (get_or done a 0 - get_or counted a 0) (after m m.activities (λ b. get_or ended b 0) a)
 
 -- the tables hold what the rules need of a model and a plan
-pub record Tabulated (m : Model) (p : Plan) (tables : List (List ℕ)) : Type 0 where
+pub record Tabulated (m : Model) (p : Plan) (tables : Tables) : Type 0 where
   pub few : m.activities ≤ 32
-  pub count_ticks : TableOf m (counts tables) (count_of m p)
-  pub end_ticks : TableOf m (ends tables) p.end
-  pub delay_ticks : TableOf m (delays tables) m.delay
-  pub finish_ticks : TableOf m (finishes tables) (finish_of m p)
-  pub from_ticks : TableOf m (froms tables) (waits_from m p)
-  pub before_masks : befores tables ≡ ranking_of Order.Before m
+  pub count_ticks : TableOf m tables.counts (count_of m p)
+  pub end_ticks : TableOf m tables.ends p.end
+  pub delay_ticks : TableOf m tables.delays m.delay
+  pub finish_ticks : TableOf m tables.finishes (finish_of m p)
+  pub from_ticks : TableOf m tables.froms (waits_from m p)
+  pub before_masks : tables.befores ≡ ranking_of Order.Before m

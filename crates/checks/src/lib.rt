@@ -7,7 +7,7 @@ mod page;
 mod tick;
 mod windows;
 
-ghost use Rattle.std.specs.Prelude.{◌≡◌, length};
+ghost use Rattle.std.specs.Prelude.{◌≡◌, cond};
 ghost use Rattle.std.proofs.Math.Option.{some};
 ghost use Rattle.schedule.specs.Rule.{break, first_break};
 ghost use Rattle.schedule.specs.Model.{model, Formed};
@@ -15,83 +15,89 @@ ghost use Rattle.schedule.specs.Plan.{plan};
 ghost use Rattle.schedule.specs.Checks.{rule_of};
 ghost use Rattle.schedule.specs.Answers.{answer, figures, plain_verdict, strict_verdict};
 ghost use Rattle.schedule.specs.Numbers.{rule_number, verdict_numbers};
-ghost use Rattle.tables.specs.Loads.{widths_of};
-ghost use Rattle.checks.specs.Rules.{Counted, order_of, grid_rules, checks_of};
+ghost use Rattle.checks.specs.Rules.{order_of, grid_rules, checks_of};
+ghost use Rattle.checks.specs.Tables.{FirstPlace};
 ghost use Rattle.records.specs.Reads.{pass_numbers};
 
-use activity::over_activities;
-use page::Tables;
-use records::Pass;
-use records::model::ModelRead;
-use records::plan::PlanRead;
+use page::Page;
 use schedule::{ActivityRule, Place, Refusal, RuleRefusal, TickRule, Verdict};
-use tables::loads::{Widths, widths_of};
-use tick::over_ticks;
+use tables::loads::widths_of;
 
 // A rule broken at a place.
-fn refused(why: RuleRefusal, a: u32, b: u32) -> Pass
+fn refused(why: RuleRefusal, a: u32, b: u32) -> Result<(), Refusal>
     ensures { pass_numbers result ≡ some (record { number = rule_number why; A = a; B = b }) }
 {
-    Pass::Refused(Refusal::Rule(why, Place { a, b }))
+    Err(Refusal::Rule(why, Place { a, b }))
 }
 
-// A rule tried at each of its places.
-fn over(
-    rule: RuleRefusal,
-    s: &[u8],
-    r: &[u8],
-    outside: u32,
-    widths: Widths,
-    tables: &Tables,
-) -> Pass
-    requires counted { Counted (model s.now) (plan r.now) outside tables.now }
-    requires widths_read { widths ≡ widths_of (model s.now) }
-    ensures { pass_numbers result ≡ break (rule_of rule (model s.now) (plan r.now)) }
+// Bit 0 where a rule is broken that names no B.
+fn flag(holds: bool) -> u32
+    ensures { result ≡ cond holds 0 1 }
 {
-    match rule {
-        RuleRefusal::Activity(rule) => over_activities(rule, s, r, outside, tables),
-        RuleRefusal::Tick(rule) => over_ticks(rule, s, r, widths, tables),
+    u32::from(!holds)
+}
+
+// The lowest of the places at which a rule is broken, from a mask of them.
+fn first_place(mask: u32) -> Option<u32>
+    ensures { FirstPlace mask result }
+{
+    if mask == 0 {
+        None
+    } else {
+        Some(bits::lowest(mask))
     }
 }
 
-// How many rules a check tries: "The plain check ends here; the strict check goes on with 30 and 31."
-fn rules_tried(strict: bool) -> usize
-    ensures { result ≡ length (order_of strict) }
+impl<'a> Page<'a> {
+    // A rule tried at each of its places.
+    fn over(&self, rule: RuleRefusal) -> Result<(), Refusal>
+        ensures { pass_numbers result ≡ break (rule_of rule (model self.now.s.now) (plan self.now.r.now)) }
+    {
+        match rule {
+            RuleRefusal::Activity(rule) => self.over_activities(rule),
+            RuleRefusal::Tick(rule) => self.over_ticks(rule),
+        }
+    }
+}
+
+// The rules in the order in which a check tries them.
+static ORDER: [RuleRefusal; 10] = [
+    RuleRefusal::Activity(ActivityRule::Window),
+    RuleRefusal::Activity(ActivityRule::Count),
+    RuleRefusal::Activity(ActivityRule::Deadline),
+    RuleRefusal::Activity(ActivityRule::Temporal),
+    RuleRefusal::Activity(ActivityRule::Data),
+    RuleRefusal::Activity(ActivityRule::Eligible),
+    RuleRefusal::Tick(TickRule::Cores),
+    RuleRefusal::Tick(TickRule::Preemption),
+    RuleRefusal::Tick(TickRule::Idle),
+    RuleRefusal::Tick(TickRule::Tie),
+];
+
+// Those that the plain or the strict check tries: "The plain check ends here; the strict check goes on with 30 and 31."
+fn order(strict: bool) -> &'static [RuleRefusal]
+    ensures { result.now ≡ order_of strict }
 {
-    if strict { 10 } else { 8 }
+    if strict { &ORDER } else { &ORDER[..8] }
 }
 
 // The rules of a check on well-formed records in their order, "each tried over everything before the next".
-fn grid_rules(s: &[u8], r: &[u8], strict: bool) -> Pass
+fn grid_rules(s: &[u8], r: &[u8], strict: bool) -> Result<(), Refusal>
     requires { Formed (model s.now) }
     ensures { pass_numbers result ≡ first_break (grid_rules strict (model s.now) (plan r.now)) }
 {
-    let order = [
-        RuleRefusal::Activity(ActivityRule::Window),
-        RuleRefusal::Activity(ActivityRule::Count),
-        RuleRefusal::Activity(ActivityRule::Deadline),
-        RuleRefusal::Activity(ActivityRule::Temporal),
-        RuleRefusal::Activity(ActivityRule::Data),
-        RuleRefusal::Activity(ActivityRule::Eligible),
-        RuleRefusal::Tick(TickRule::Cores),
-        RuleRefusal::Tick(TickRule::Preemption),
-        RuleRefusal::Tick(TickRule::Idle),
-        RuleRefusal::Tick(TickRule::Tie),
-    ];
-    let n = rules_tried(strict);
     let tables = page::tabulate(s, r);
-    let outside = windows::strays(s, r, &tables);
-    let widths = widths_of(s);
-    let mut k: usize = 0;
-    while k < n {
-        let rule = order[k];
-        let pass = over(rule, s, r, outside, widths, &tables);
-        if let Pass::Refused(_) = pass {
-            return pass;
-        }
-        k += 1;
+    let page = Page {
+        s,
+        r,
+        tables: &tables,
+        outside: windows::strays(s, r, &tables),
+        widths: widths_of(s),
+    };
+    for rule in order(strict) {
+        page.over(*rule)?;
     }
-    Pass::Holds
+    Ok(())
 }
 
 // A check of a model's and a plan's bytes: "The model is tried first, in list order".
@@ -100,19 +106,10 @@ fn check(s: &[u8], r: &[u8], strict: bool) -> Verdict
         ≡ answer (first_break (checks_of strict s.now r.now))
         (figures (model s.now) (plan r.now)) }
 {
-    let read = records::model::read(s);
-    if let ModelRead::Refused(why) = read {
-        return Verdict::Refused(why);
-    }
-    let form = records::plan::read(s, r);
-    if let PlanRead::Refused(why) = form {
-        return Verdict::Refused(why);
-    }
-    let rules = grid_rules(s, r, strict);
-    if let Pass::Refused(why) = rules {
-        return Verdict::Refused(why);
-    }
-    Verdict::Accepted(tables::figures::figures(s, r))
+    records::model::read(s)?;
+    records::plan::read(s, r)?;
+    grid_rules(s, r, strict)?;
+    Ok(tables::figures::figures(s, r))
 }
 
 // "The plain check": the form rules of the two records, then 21 to 29.

@@ -1,37 +1,34 @@
-// What the rules of activities and of ticks both look up of a model and a plan, by activity: tables of 32 numbers.
-ghost use Rattle.std.specs.Prelude.{◌≡◌, ◌<◌, get_or};
+// What the rules of activities and of ticks both look up of a model and a plan, by activity: tables of 32 numbers. The rules
+// are methods of the page that has them.
+ghost use Rattle.std.specs.Prelude.{◌≡◌, ℕ, ◌<◌};
+ghost use Rattle.std.proofs.Props.{props};
 ghost use Rattle.schedule.specs.Model.{model, Formed};
 ghost use Rattle.schedule.specs.Plan.{plan};
+ghost use Rattle.tables.specs.Loads.{widths_of};
 ghost use Rattle.checks.specs.Tables.{Tabulated};
+ghost use Rattle.checks.specs.Rules.{Counted};
 
-use crate::efe;
-use records::model::Activity;
+use crate::efe::Predecessors;
+use tables::ByActivity;
 use tables::columns::Column;
+use tables::loads::Widths;
 use tables::ranking::Order;
 
-// The tables together, each by its name.
-pub(crate) type Tables = [[u32; 32]; 6];
-
-// "count(a) is the number of words with bit a"
-pub(crate) const COUNTS: usize = 0;
-// the plan's ends
-pub(crate) const ENDS: usize = 1;
-// the model's delays
-pub(crate) const DELAYS: usize = 2;
-// efe(a) + count(a): when a could be finished with cores enough
-pub(crate) const FINISHES: usize = 3;
-// the tick from which a can wait
-pub(crate) const FROMS: usize = 4;
-// those that rank before a, as a word
-pub(crate) const BEFORES: usize = 5;
-
-// What a table holds for activity a.
-pub(crate) fn at(table: &[u32; 32], a: Activity) -> u32
-    requires { a.0 < 32 }
-    ensures { result ≡ get_or table.now a.0 0 }
-{
-    let number = a.0;
-    table[number as usize]
+// The tables together.
+#[derive(Clone, Copy)]
+pub(crate) struct Tables {
+    // "count(a) is the number of words with bit a"
+    pub(crate) counts: ByActivity,
+    // the plan's ends
+    pub(crate) ends: ByActivity,
+    // the model's delays
+    pub(crate) delays: ByActivity,
+    // efe(a) + count(a): when a could be finished with cores enough
+    pub(crate) finishes: ByActivity,
+    // the tick from which a can wait
+    pub(crate) froms: ByActivity,
+    // those that rank before a, as a word
+    pub(crate) befores: ByActivity,
 }
 
 // All of them.
@@ -42,8 +39,35 @@ pub(crate) fn tabulate(s: &[u8], r: &[u8]) -> Tables
     let counts = tables::counts::counts(s, r);
     let ends = tables::columns::table(Column::PlanEnd, s, r);
     let delays = tables::columns::table(Column::Delay, s, r);
-    let finishes = efe::finishes(s, r, &counts, &delays);
-    let froms = efe::froms(s, &finishes, &counts, &ends, &delays);
+    let sizes = records::model::counts(s);
+    let predecessors = Predecessors {
+        s,
+        n: sizes.activities,
+        delays: &delays,
+    };
+    let finishes = predecessors.finishes(r, &counts);
+    let froms = predecessors.froms(&finishes, &counts, &ends);
     let befores = tables::ranking::masks(Order::Before, s);
-    [counts, ends, delays, finishes, froms, befores]
+    Tables {
+        counts,
+        ends,
+        delays,
+        finishes,
+        froms,
+        befores,
+    }
+}
+
+// A well-formed model and a plan, with what the rules look up of them: the tables, the activities that are active outside
+// their window, as a word, and the widths.
+#[derive(Clone, Copy)]
+pub(crate) struct Page<'a> {
+    pub(crate) s: &'a [u8],
+    pub(crate) r: &'a [u8],
+    pub(crate) tables: &'a Tables,
+    pub(crate) outside: u32,
+    pub(crate) widths: Widths,
+    ghost counted: { Counted (model s.now) (plan r.now) outside tables.now } by { Prim.hlevel props },
+    ghost narrow: { (a : ℕ) → (model s.now).width a < 256 },
+    ghost widths_read: { widths ≡ widths_of (model s.now) },
 }

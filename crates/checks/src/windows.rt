@@ -9,7 +9,8 @@ ghost use Rattle.checks.specs.Tables.{Tabulated};
 ghost use Rattle.checks.specs.Rules.{none_outside};
 ghost use Rattle.checks.specs.Windows.{open_of, without};
 
-use crate::page::{ENDS, Tables};
+use crate::page::Tables;
+use tables::ByActivity;
 use tables::columns::Column;
 use ticks::{Kept, sooner};
 
@@ -17,54 +18,73 @@ use ticks::{Kept, sooner};
 fn holds(from: u32, end: u32, t: u32) -> bool
     ensures { result ≡ (leb from t && ltb t end) }
 {
-    if t < from {
-        return false;
-    }
-    t < end
+    from <= t && t < end
 }
 
-// The windows that are open at tick t.
-fn opened(n: usize, froms: &[u32; 32], ends: &[u32; 32], t: u32) -> u32
-    requires { n ≤ 32 }
-    ensures { result ≡ open_of n froms.now ends.now t }
-{
-    let mut mask: u32 = 0;
-    let mut a = 0;
-    while a < n {
-        let yes = holds(froms[a], ends[a], t);
-        mask = bits::mark(mask, a as u32, yes);
-        a += 1;
-    }
-    mask
+// The windows of the first n activities, by tables of the ticks from which and before which they are open.
+#[derive(Clone, Copy)]
+pub(crate) struct Windows<'a> {
+    pub(crate) n: usize,
+    pub(crate) froms: &'a ByActivity,
+    pub(crate) ends: &'a ByActivity,
+    ghost few: { n ≤ 32 },
 }
 
-// The next tick after t at which a window opens or closes.
-fn next_change(n: usize, froms: &[u32; 32], ends: &[u32; 32], t: u32) -> u32
-    requires { n ≤ 32 }
-    ensures { Quiet n (λ a. get_or froms.now a 0) t result × Quiet n (λ a. get_or ends.now a 0) t result }
-{
-    let mut next: u32 = 0xffff_ffff;
-    let mut a = 0;
-    while a < n {
-        next = sooner(next, froms[a], t);
-        next = sooner(next, ends[a], t);
-        a += 1;
+impl<'a> Windows<'a> {
+    // Those that are open at tick t.
+    fn opened(&self, t: u32) -> u32
+        ensures { result ≡ open_of self.now.n self.now.froms.now self.now.ends.now t }
+    {
+        let mut mask: u32 = 0;
+        for a in 0..self.n {
+            let yes = holds(self.froms[a], self.ends[a], t);
+            mask = bits::mark(mask, a as u32, yes);
+        }
+        mask
     }
-    next
-}
 
-// The windows at tick t, as a word: those that are known, where they still stand.
-pub(crate) fn at(known: Kept, n: usize, froms: &[u32; 32], ends: &[u32; 32], t: u32) -> Kept
-    requires { (n ≤ 32) × Stands (open_of n froms.now ends.now) known t }
-    ensures { (result.word ≡ open_of n froms.now ends.now t)
-        × Stands (open_of n froms.now ends.now) result t }
-{
-    if known.lasts(t) {
-        return known;
+    // The next tick after t at which one opens or closes.
+    fn next_change(&self, t: u32) -> u32
+        ensures { Quiet self.now.n (λ a. get_or self.now.froms.now a 0) t result
+            × Quiet self.now.n (λ a. get_or self.now.ends.now a 0) t result }
+    {
+        let mut next: u32 = 0xffff_ffff;
+        for a in 0..self.n {
+            next = sooner(next, self.froms[a], t);
+            next = sooner(next, self.ends[a], t);
+        }
+        next
     }
-    Kept {
-        word: opened(n, froms, ends, t),
-        until: next_change(n, froms, ends, t),
+
+    // Those that are open at tick t, as a word: those that are known, where they still stand.
+    pub(crate) fn at(&self, known: Kept, t: u32) -> Kept
+        requires { Stands (open_of self.now.n self.now.froms.now self.now.ends.now) known t }
+        ensures { (result.word ≡ open_of self.now.n self.now.froms.now self.now.ends.now t)
+            × Stands (open_of self.now.n self.now.froms.now self.now.ends.now) result t }
+    {
+        if known.lasts(t) {
+            return known;
+        }
+        Kept {
+            word: self.opened(t),
+            until: self.next_change(t),
+        }
+    }
+
+    // The activities that are active at a tick outside their window.
+    fn outside(&self, r: &[u8], horizon: u16) -> u32
+        ensures { (a : ℕ) → a < self.now.n → bit result a
+            ≡ not (all horizon (λ t. active (plan r.now) t a
+            ⇒ (leb (get_or self.now.froms.now a 0) t && ltb t (get_or self.now.ends.now a 0)))) }
+    {
+        let grid = records::plan::words(r);
+        let mut strays: u32 = 0;
+        let mut opened = ticks::unknown();
+        for t in 0..horizon {
+            opened = self.at(opened, t as u32);
+            strays |= without(records::grid::word(grid, t as usize), opened.word);
+        }
+        strays
     }
 }
 
@@ -75,25 +95,6 @@ pub(crate) fn without(word: u32, other: u32) -> u32
     word & !other
 }
 
-// The activities that are active at a tick outside their window.
-fn outside(r: &[u8], horizon: u16, n: usize, starts: &[u32; 32], ends: &[u32; 32]) -> u32
-    requires { n ≤ 32 }
-    ensures { (a : ℕ) → a < n → bit result a
-        ≡ not (all horizon (λ t. active (plan r.now) t a
-        ⇒ (leb (get_or starts.now a 0) t && ltb t (get_or ends.now a 0)))) }
-{
-    let grid = records::plan::words(r);
-    let mut strays: u32 = 0;
-    let mut windows = ticks::unknown();
-    let mut t: u16 = 0;
-    while t < horizon {
-        windows = at(windows, n, starts, ends, t as u32);
-        strays = strays | without(records::grid::word(grid, t as usize), windows.word);
-        t += 1;
-    }
-    strays
-}
-
 // "none outside": the activities that break it.
 pub(crate) fn strays(s: &[u8], r: &[u8], tables: &Tables) -> u32
     requires { Tabulated (model s.now) (plan r.now) tables.now }
@@ -102,11 +103,10 @@ pub(crate) fn strays(s: &[u8], r: &[u8], tables: &Tables) -> u32
 {
     let sizes = records::model::counts(s);
     let starts = tables::columns::table(Column::PlanStart, s, r);
-    outside(
-        r,
-        sizes.horizon,
-        sizes.activities as usize,
-        &starts,
-        &tables[ENDS],
-    )
+    let windows = Windows {
+        n: sizes.activities as usize,
+        froms: &starts,
+        ends: &tables.ends,
+    };
+    windows.outside(r, sizes.horizon)
 }

@@ -25,7 +25,8 @@ use Rattle.laws.proofs.Sound.{plain_rules_sound}
 use Rattle.laws.proofs.VerdictLaws.{accepted_is_not-refused, answer-accepted, answer-refused, plain-past-form, verdict-refused}
 use Rattle.records.proofs.Reading.{rule_picked}
 use Rattle.edit_rules.specs.declared.Edit.{Edit}
-use Rattle.edit_rules.specs.declared.Asked.{Asked}
+use Rattle.std.specs.Prelude.{Some, None}
+use Rattle.edit_rules.specs.Keeping.{Asked}
 use Rattle.edit_rules.specs.declared.Editing.{Editing}
 use Rattle.edit_rules.specs.Edits.{rule58, rule59, rule60, edit_checks, edit_answer, edit_bytes}
 use Rattle.edit_rules.specs.Statements.{refused_by}
@@ -127,12 +128,12 @@ edits_leave s r state e = record {
 
 rule61_sound : (asked : Asked) → Sound (rule61 asked)
 unfolding rule61
-rule61_sound Asked.Nothing a b = (λ t. absurd t, λ f. absurd (f refl))
-rule61_sound (Asked.Edit e) a b = (λ _ same. let z : ◌≡◌ {A = ℕ} 0 1 = cc in omega arith, λ _. tt)
+rule61_sound None a b = (λ t. absurd t, λ f. absurd (f refl))
+rule61_sound (Some e) a b = (λ _ same. let z : ◌≡◌ {A = ℕ} 0 1 = cc in omega arith, λ _. tt)
 
 asked_sound : (m : Model) (p : Plan) (asked : Asked) → AllSound (asked_rules m p asked)
-asked_sound m p Asked.Nothing = tt
-asked_sound m p (Asked.Edit e) = edit_rules_sound m p e
+asked_sound m p None = tt
+asked_sound m p (Some e) = edit_rules_sound m p e
 
 pub keep_checks_sound : (s r : List ℕ) (asked : Asked) → AllSound (keep_checks s r asked)
 unfolding keep_checks
@@ -144,36 +145,36 @@ unfolding keep_answer keep_checks answer
 keep_stops s r asked x first = said_by _ (some x) (records_stop s r _ x first)
 
 -- with nothing asked, and records that pass: 61, and so it is never done
-pub keep_61 : (s r : List ℕ) → view_refusal s r ≡ none → keep_answer s r Asked.Nothing ≡ refused_by 61
+pub keep_61 : (s r : List ℕ) → view_refusal s r ≡ none → keep_answer s r None ≡ refused_by 61
 unfolding keep_answer keep_checks rule61 answer
 keep_61 s r pass =
     said_by _ (some (record { number = 61; A = 0; B = 0 }))
-    (records_past s r (rule61 Asked.Nothing ∷ []) pass ∙ rule_picked (rule61 Asked.Nothing) [] refl refl)
+    (records_past s r (rule61 None ∷ []) pass ∙ rule_picked (rule61 None) [] refl refl)
 
-pub keep_unasked : (s r : List ℕ) → ¬ (keep_answer s r Asked.Nothing ≡ accepted tt)
+pub keep_unasked : (s r : List ℕ) → ¬ (keep_answer s r None ≡ accepted tt)
 keep_unasked s r done = by (view_refusal s r) refl
   where
     by : (o : Option Refusal) → view_refusal s r ≡ o → ⊥
     by none pass = accepted_is_not-refused tt _ (sym done ∙ keep_61 s r pass)
-    by (some x) first = accepted_is_not-refused tt x (sym done ∙ keep_stops s r Asked.Nothing x first)
+    by (some x) first = accepted_is_not-refused tt x (sym done ∙ keep_stops s r None x first)
 
 -- with an edit asked: as the direct edit
-pub keep-direct : (s r : List ℕ) (e : Edit) → keep_answer s r (Asked.Edit e) ≡ edit_answer s r e
+pub keep-direct : (s r : List ℕ) (e : Edit) → keep_answer s r (Some e) ≡ edit_answer s r e
 unfolding keep_answer keep_checks edit_answer edit_checks rule61
 keep-direct s r e =
     said_by _ _
-    (append_same (model_form s) _ _ (append_same (plan_form (model s) r) _ _ (rule_goes_on (rule61 (Asked.Edit e)) _ holds)))
+    (append_same (model_form s) _ _ (append_same (plan_form (model s) r) _ _ (rule_goes_on (rule61 (Some e)) _ holds)))
   where
-    holds : break (rule61 (Asked.Edit e)) ≡ none
+    holds : break (rule61 (Some e)) ≡ none
     holds =
-        (break-none (rule61 (Asked.Edit e)) (rule61_sound (Asked.Edit e))).1 (λ _ _ _ _ same.
+        (break-none (rule61 (Some e)) (rule61_sound (Some e))).1 (λ _ _ _ _ same.
         let z : ◌≡◌ {A = ℕ} 0 1 = cc in omega arith)
 
 -- a refused keep leaves the bytes as they were
 keep-leaves : (s r : List ℕ) (asked : Asked) (x : Refusal) → keep_answer s r asked ≡ refused x → keep_bytes s r asked ≡ r
 unfolding keep_bytes
-keep-leaves s r Asked.Nothing x said = refl
-keep-leaves s r (Asked.Edit e) x said = (edits_are_tried s r e).nothing_changed x (sym (keep-direct s r e) ∙ said)
+keep-leaves s r None x said = refl
+keep-leaves s r (Some e) x said = (edits_are_tried s r e).nothing_changed x (sym (keep-direct s r e) ∙ said)
 
 pub keeps_are_tried : KeepsAreTried
 unfolding keep_answer keep_bytes keep_state

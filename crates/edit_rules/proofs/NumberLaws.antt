@@ -17,14 +17,12 @@ use Rattle.demands.proofs.Rule24.{Other, behind_form, plan-other, answer-other, 
 use Rattle.edit_rules.specs.declared.Edit.{Edit}
 use Rattle.edit_rules.specs.declared.EditRefusal.{EditRefusal}
 use Rattle.edit_rules.specs.declared.Reason.{Reason}
-use Rattle.edit_rules.specs.declared.Edited.{Edited}
 use Rattle.edit_rules.specs.declared.Unkept.{Unkept}
-use Rattle.edit_rules.specs.declared.Kept.{Kept}
-use Rattle.edit_rules.specs.declared.Asked.{Asked}
-use Rattle.edit_rules.specs.declared.Told.{Told}
+use Rattle.std.specs.Prelude.{Some, None, Ok, Err}
+use Rattle.edit_rules.specs.Keeping.{Asked}
 use Rattle.edit_rules.specs.Edits.{rule58, rule59, rule60, edit_rules, edit_checks, edit_answer, edit_bytes}
 use Rattle.edit_rules.specs.Keeping.{ask_answer, rule61, asked_rules, keep_checks, keep_answer}
-use Rattle.edit_rules.specs.EditNumbers.{edit_number, reason_numbers, edited_numbers, unkept_numbers, kept_numbers, told_numbers}
+use Rattle.edit_rules.specs.EditNumbers.{Edited, Kept, Told, edit_number, reason_numbers, edited_numbers, unkept_numbers, kept_numbers, told_numbers}
 use Rattle.edit_rules.specs.Statements.{EditsNever}
 use Rattle.edit_rules.specs.KeepStatements.{KeepsNever}
 use Rattle.edit_rules.proofs.AnswerLaws.{edit_checks_sound}
@@ -68,12 +66,12 @@ reason_injective (Reason.Edit x) (Reason.Record y) e = absurd (edit_apart y x (s
 reason_injective (Reason.Edit x) (Reason.Edit y) e = ap Reason.Edit (edit_injective x y (ap number e))
 
 pub edited_injective : (x y : Edited) → edited_numbers x ≡ edited_numbers y → x ≡ y
-edited_injective Edited.Done Edited.Done e = refl
-edited_injective Edited.Done (Edited.Refused y) e = let z : ◌≡◌ {A = ℕ} 0 1 = cc in absurd (omega arith)
-edited_injective (Edited.Refused x) Edited.Done e = let z : ◌≡◌ {A = ℕ} 0 1 = cc in absurd (omega arith)
-edited_injective (Edited.Refused x) (Edited.Refused y) e =
+edited_injective (Ok _) (Ok _) e = refl
+edited_injective (Ok _) (Err y) e = let z : ◌≡◌ {A = ℕ} 0 1 = cc in absurd (omega arith)
+edited_injective (Err x) (Ok _) e = let z : ◌≡◌ {A = ℕ} 0 1 = cc in absurd (omega arith)
+edited_injective (Err x) (Err y) e =
     let same : reason_numbers x ≡ reason_numbers y = cc in
-    ap Edited.Refused (reason_injective x y same)
+    ap Err (reason_injective x y same)
 
 -- 61 is the number of no edit that is refused
 reason_not_61 : (why : Reason) → ¬ ((reason_numbers why).number ≡ 61)
@@ -87,22 +85,22 @@ unkept_injective (Unkept.Edit x) Unkept.NothingAsked e = absurd (reason_not_61 x
 unkept_injective (Unkept.Edit x) (Unkept.Edit y) e = ap Unkept.Edit (reason_injective x y e)
 
 pub kept_injective : (x y : Kept) → kept_numbers x ≡ kept_numbers y → x ≡ y
-kept_injective Kept.Done Kept.Done e = refl
-kept_injective Kept.Done (Kept.Refused y) e = let z : ◌≡◌ {A = ℕ} 0 1 = cc in absurd (omega arith)
-kept_injective (Kept.Refused x) Kept.Done e = let z : ◌≡◌ {A = ℕ} 0 1 = cc in absurd (omega arith)
-kept_injective (Kept.Refused x) (Kept.Refused y) e =
+kept_injective (Ok _) (Ok _) e = refl
+kept_injective (Ok _) (Err y) e = let z : ◌≡◌ {A = ℕ} 0 1 = cc in absurd (omega arith)
+kept_injective (Err x) (Ok _) e = let z : ◌≡◌ {A = ℕ} 0 1 = cc in absurd (omega arith)
+kept_injective (Err x) (Err y) e =
     let same : unkept_numbers x ≡ unkept_numbers y = cc in
-    ap Kept.Refused (unkept_injective x y same)
+    ap Err (unkept_injective x y same)
 
 pub told_injective : (x y : Told) → told_numbers x ≡ told_numbers y → x ≡ y
-told_injective (Told.Verdict v) (Told.Verdict w) e =
+told_injective (Ok v) (Ok w) e =
     let same : verdict_numbers v ≡ verdict_numbers w = cc in
-    ap Told.Verdict (verdict_injective v w same)
-told_injective (Told.Verdict v) (Told.Refused y) e = let z : ◌≡◌ {A = ℕ} 0 1 = cc in absurd (omega arith)
-told_injective (Told.Refused x) (Told.Verdict w) e = let z : ◌≡◌ {A = ℕ} 0 1 = cc in absurd (omega arith)
-told_injective (Told.Refused x) (Told.Refused y) e =
+    ap Ok (verdict_injective v w same)
+told_injective (Ok v) (Err y) e = let z : ◌≡◌ {A = ℕ} 0 1 = cc in absurd (omega arith)
+told_injective (Err x) (Ok w) e = let z : ◌≡◌ {A = ℕ} 0 1 = cc in absurd (omega arith)
+told_injective (Err x) (Err y) e =
     let same : reason_numbers x ≡ reason_numbers y = cc in
-    ap Told.Refused (reason_injective x y same)
+    ap Err (reason_injective x y same)
 
 -- ---- the number that is out of the book
 
@@ -133,8 +131,8 @@ unfolding edit_checks
 checks_other s r e = behind_other s r _ (edit_other (model s) (plan r) e)
 
 asked-other : (m : Model) (p : Plan) (asked : Asked) → AllRules Other (asked_rules m p asked)
-asked-other m p Asked.Nothing = tt
-asked-other m p (Asked.Edit e) = edit_other m p e
+asked-other m p None = tt
+asked-other m p (Some e) = edit_other m p e
 
 keep-other : (s r : List ℕ) (asked : Asked) → AllRules Other (keep_checks s r asked)
 unfolding keep_checks rule61

@@ -7,7 +7,8 @@ use mathlib.Core.Path.{◌≡◌, refl, sym, ap, subst, ◌∙◌}
 use Rattle.schedule.specs.Fields.{Bytes}
 use Rattle.schedule.specs.Answers.{Answer, accepted, refused, Figures}
 use Rattle.edit_rules.specs.declared.Edit.{Edit}
-use Rattle.edit_rules.specs.declared.Asked.{Asked}
+use Rattle.std.specs.Prelude.{Some, None}
+use Rattle.edit_rules.specs.Keeping.{Asked}
 use Rattle.edit_rules.specs.Edits.{edit_answer, if_unrefused, edit_bytes, edited_by, answers_to, unrefused_by}
 use Rattle.edit_rules.specs.Statements.{AfterEdits, Alone}
 use Rattle.edit_rules.specs.Keeping.{nothing_asked, asking, edit_state, ask_answer, ask_state, keep_answer, keep_bytes, keep_state}
@@ -25,8 +26,8 @@ at asked r = record { state = record { asked = asked }; plan = r }
 
 -- what is asked is the edit of the latest ask
 abbrev Latest : Asked → Option Edit → Type 0
-Latest Asked.Nothing latest = Unit {0}
-Latest (Asked.Edit e) latest = latest ≡ some e
+Latest None latest = Unit {0}
+Latest (Some e) latest = latest ≡ some e
 
 -- so it is behind an ask, unrefused or refused
 ask_latest : (e : Edit) (said : Answer (Answer Figures))
@@ -64,8 +65,8 @@ Behind s before latest calls asked said =
     (keep_bytes s before asked) (if_unrefused said (listed latest) []) before
 
 -- a keep with nothing asked is refused
-unasked : (s r : List ℕ) (latest : Option Edit) (calls : List Call) (said : Answer (Unit {0})) → keep_answer s r Asked.Nothing ≡ said
-    → KeptFrom s latest calls Asked.Nothing r [] r → Behind s r latest calls Asked.Nothing said
+unasked : (s r : List ℕ) (latest : Option Edit) (calls : List Call) (said : Answer (Unit {0})) → keep_answer s r None ≡ said
+    → KeptFrom s latest calls None r [] r → Behind s r latest calls None said
 unfolding keep_bytes
 unasked s r latest calls (accepted _) done h = absurd (keep_unasked s r done)
 unasked s r latest calls (refused x) said h = h
@@ -80,15 +81,15 @@ kept_from s r asked latest (ask e ∷ calls) h =
 kept_from s r asked latest (direct e ∷ calls) h =
     let said = edit_answer s r e in
     edit_first s r e _ _ (kept_from s (edit_bytes s r e) _ (if_unrefused said none latest) calls (edit_latest asked latest said h))
-kept_from s r Asked.Nothing latest (keep ∷ calls) h =
-    unasked s r latest calls (keep_answer s r Asked.Nothing) refl (kept_from s r Asked.Nothing latest calls tt)
-kept_from s r (Asked.Edit e) latest (keep ∷ calls) h =
+kept_from s r None latest (keep ∷ calls) h =
+    unasked s r latest calls (keep_answer s r None) refl (kept_from s r None latest calls tt)
+kept_from s r (Some e) latest (keep ∷ calls) h =
     let said = edit_answer s r e in
-    let as_direct : Behind s r (some e) calls (Asked.Edit e) said =
+    let as_direct : Behind s r (some e) calls (Some e) said =
     edit_first s r e _ _
-    (kept_from s (edit_bytes s r e) _ (if_unrefused said none (some e)) calls (edit_latest (Asked.Edit e) (some e) said refl)) in
-    subst (Behind s r latest calls (Asked.Edit e)) (sym (keep-direct s r e))
-    (subst (λ (o : Option Edit). Behind s r o calls (Asked.Edit e) said) (sym h) as_direct)
+    (kept_from s (edit_bytes s r e) _ (if_unrefused said none (some e)) calls (edit_latest (Some e) (some e) said refl)) in
+    subst (Behind s r latest calls (Some e)) (sym (keep-direct s r e))
+    (subst (λ (o : Option Edit). Behind s r o calls (Some e) said) (sym h) as_direct)
 
 -- edits that are all done are all unrefused
 all-unrefused : (es : List Edit) → unrefused_by (map (λ _. accepted tt) es) es ≡ es
@@ -105,7 +106,7 @@ meaning s r after made h b =
 
 pub kept-alone : KeptAlone
 kept-alone s r calls =
-    let h = kept_from s r Asked.Nothing none calls tt in
+    let h = kept_from s r None none calls tt in
     record { alone = h; meaning = meaning s r _ _ h }
 
 -- ---- direct edits with any state

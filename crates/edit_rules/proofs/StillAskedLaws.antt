@@ -19,7 +19,8 @@ use Rattle.laws.proofs.RuleNumbers.{AllNumbers, rules_append, first-broken-numbe
 use Rattle.laws.proofs.Sound.{model_form_sound, plan_form_sound}
 use Rattle.laws.proofs.VerdictLaws.{accepted_is_not-refused}
 use Rattle.edit_rules.specs.declared.Edit.{Edit}
-use Rattle.edit_rules.specs.declared.Asked.{Asked}
+use Rattle.std.specs.Prelude.{Some, None}
+use Rattle.edit_rules.specs.Keeping.{Asked}
 use Rattle.edit_rules.specs.declared.Editing.{Editing}
 use Rattle.edit_rules.specs.Edits.{edit_answer, if_unrefused, edit_bytes}
 use Rattle.edit_rules.specs.Statements.{refused_by}
@@ -95,15 +96,15 @@ last_or_still xs y e v h =
 
 -- behind the entries xs just that is asked which is still asked
 record Follows (xs : List Entry) (asked : Asked) : Type 0 where
-  standing : (e : Edit) (v : Answer Figures) → StillAsked xs e v → asked ≡ Asked.Edit e
-  asking : (e : Edit) → asked ≡ Asked.Edit e → (v : Answer Figures) × StillAsked xs e v
+  standing : (e : Edit) (v : Answer Figures) → StillAsked xs e v → asked ≡ Some e
+  asking : (e : Edit) → asked ≡ Some e → (v : Answer Figures) × StillAsked xs e v
 
 -- behind an ask that told a verdict
-follows_ask : (xs : List Entry) (asked : Asked) (e : Edit) (v : Answer Figures) → asked ≡ Asked.Edit e
+follows_ask : (xs : List Entry) (asked : Asked) (e : Edit) (v : Answer Figures) → asked ≡ Some e
     → Follows (xs ++ (asks e (accepted v) ∷ [])) asked
 follows_ask xs asked e v is = record {
   standing = λ d w h. ⊎_elim
-      (λ (same : asks e (accepted v) ≡ asks d (accepted w)). let edit : e ≡ d = cc in is ∙ ap Asked.Edit edit)
+      (λ (same : asks e (accepted v) ≡ asks d (accepted w)). let edit : e ≡ d = cc in is ∙ ap Some edit)
       (λ (b : NoAskNothingKept (asks e (accepted v)) × StillAsked xs d w). absurd b.0)
       (last_or_still xs (asks e (accepted v)) d w h);
   asking = λ d same.
@@ -112,7 +113,7 @@ follows_ask xs asked e v is = record {
 }
 
 -- behind an entry that leaves nothing asked: a refused ask, or a kept edit
-follows_nothing : (xs : List Entry) (asked : Asked) (y : Entry) → asked ≡ Asked.Nothing
+follows_nothing : (xs : List Entry) (asked : Asked) (y : Entry) → asked ≡ None
     → ((e : Edit) (v : Answer Figures) → ¬ (y ≡ asks e (accepted v))) → (¬ NoAskNothingKept y) → Follows (xs ++ (y ∷ [])) asked
 follows_nothing xs asked y is no-ask kept = record {
   standing = λ e v h. absurd (⊎_elim (no-ask e v) (λ b. kept b.0) (last_or_still xs y e v h));
@@ -179,7 +180,7 @@ module _ (s : List ℕ) (xs : List Entry) (x : Session) (h : Follows xs x.state.
   follows_call keep = follows_keeps (keep_answer s x.plan x.state.asked) refl
   follows_call (direct e) = follows_edits e (edit_answer s x.plan e) refl
 
-at_the_beginning : Follows [] Asked.Nothing
+at_the_beginning : Follows [] None
 at_the_beginning = record {
   standing = λ e v h. absurd (never h.before _ h.since h.splits);
   asking = λ e same. let z : ◌≡◌ {A = ℕ} 0 1 = cc in absurd (omega arith);
@@ -325,7 +326,7 @@ module _ (s : List ℕ) (xs : List Entry) (x : Session) (h : Follows xs x.state.
 
   -- with an edit still asked
   module _ (e : Edit) (v : Answer Figures) (st : StillAsked xs e v) where
-    is : x.state.asked ≡ Asked.Edit e
+    is : x.state.asked ≡ Some e
     is = h.standing e v st
 
     done : said ≡ accepted tt
@@ -340,11 +341,11 @@ module _ (s : List ℕ) (xs : List Entry) (x : Session) (h : Follows xs x.state.
     that_verdict = ap (plain_verdict s) that_edit ∙ ((verdict-told s x.plan e v).0 (tells e v st)).1
 
   -- something is asked, or nothing
-  either : (asked : Asked) → x.state.asked ≡ asked → SomeAsked xs ⊎ (x.state.asked ≡ Asked.Nothing)
-  either Asked.Nothing same = inr same
-  either (Asked.Edit e) same = inl (e, (h.asking e same).0, (h.asking e same).1)
+  either : (asked : Asked) → x.state.asked ≡ asked → SomeAsked xs ⊎ (x.state.asked ≡ None)
+  either None same = inr same
+  either (Some e) same = inl (e, (h.asking e same).0, (h.asking e same).1)
 
-  asked_or_not : SomeAsked xs ⊎ (x.state.asked ≡ Asked.Nothing)
+  asked_or_not : SomeAsked xs ⊎ (x.state.asked ≡ None)
   asked_or_not = either x.state.asked refl
 
   done_where : (said ≡ accepted tt) ↔ SomeAsked xs

@@ -12,7 +12,8 @@ use Rattle.schedule.specs.Answers.{Answer, answer, plain_verdict}
 use Rattle.demands.specs.Rounds.{SameGiven}
 use Rattle.demands.proofs.SameAnswers.{tried_alike, answered_alike}
 use Rattle.edit_rules.specs.declared.Edit.{Edit}
-use Rattle.edit_rules.specs.declared.Asked.{Asked}
+use Rattle.std.specs.Prelude.{Some, None}
+use Rattle.edit_rules.specs.Keeping.{Asked}
 use Rattle.edit_rules.specs.Edits.{edit_rules, edited_plan, edit_checks, edit_answer, if_unrefused, edit_bytes}
 use Rattle.edit_rules.specs.Statements.{EditedAlike}
 use Rattle.edit_rules.specs.Keeping.{nothing_asked, asking, edit_state, ask_answer, ask_state}
@@ -45,8 +46,8 @@ module _ (s u : List ℕ) (same : SameGiven s u) where
 
   kept-bytes_alike : (r : List ℕ) (asked : Asked) → keep_bytes s r asked ≡ keep_bytes u r asked
   unfolding keep_bytes
-  kept-bytes_alike r Asked.Nothing = refl
-  kept-bytes_alike r (Asked.Edit e) = (edited_alike s u r e same).1
+  kept-bytes_alike r None = refl
+  kept-bytes_alike r (Some e) = (edited_alike s u r e same).1
 
   -- one call
   entry_alike : (x : Session) (c : Call) → entry s x c ≡ entry u x c

@@ -10,7 +10,8 @@ use Rattle.schedule.specs.Answers.{Answer, accepted, Figures}
 use Rattle.schedule.specs.Cases.{every, patch, accepts, refuses}
 use Rattle.schedule.specs.Starred.{model_s, plan_s, times, activity2_at_6, wider_period}
 use Rattle.edit_rules.specs.declared.Edit.{Edit}
-use Rattle.edit_rules.specs.declared.Asked.{Asked}
+use Rattle.std.specs.Prelude.{Some, None}
+use Rattle.edit_rules.specs.Keeping.{Asked}
 use Rattle.edit_rules.specs.declared.Editing.{Editing}
 use Rattle.edit_rules.specs.declared.EditRefusal.{EditRefusal}
 use Rattle.edit_rules.specs.declared.Reason.{Reason}
@@ -41,8 +42,8 @@ call_of (edits e said) = direct e
 
 -- the edit that is asked before the first call, if there is one
 abbrev asked_before : Asked → Option Edit
-asked_before Asked.Nothing = none
-asked_before (Asked.Edit e) = some e
+asked_before None = none
+asked_before (Some e) = some e
 
 -- the definitions say what is expected, in every case of a table
 abbrev pub AllRight : List KeepCase → Type 0

@@ -10,7 +10,8 @@ use Rattle.schedule.specs.Streams.{view_refusal}
 use Rattle.schedule.specs.Retired.{NoCaseRetired, AnswerNotRetired}
 use Rattle.demands.specs.Rounds.{SameGiven}
 use Rattle.edit_rules.specs.declared.Edit.{Edit}
-use Rattle.edit_rules.specs.declared.Asked.{Asked}
+use Rattle.std.specs.Prelude.{Some, None}
+use Rattle.edit_rules.specs.Keeping.{Asked}
 use Rattle.edit_rules.specs.declared.Editing.{Editing}
 use Rattle.edit_rules.specs.declared.Unkept.{Unkept}
 use Rattle.edit_rules.specs.EditNumbers.{unkept_numbers}
@@ -39,8 +40,8 @@ pub record AskTold (s r : List ℕ) (state : Editing) (e : Edit) : Type 0 where
   -- "and changes no byte"
   pub no_byte : (leaves s (record { state = state; plan = r }) (ask e)).plan ≡ r
   -- "A new ask replaces the old one; a refused ask leaves nothing asked"
-  pub asked : (v : Answer Figures) → ask_answer s r e ≡ accepted v → (ask_state s r state e).asked ≡ Asked.Edit e
-  pub erased : (x : Refusal) → ask_answer s r e ≡ refused x → (ask_state s r state e).asked ≡ Asked.Nothing
+  pub asked : (v : Answer Figures) → ask_answer s r e ≡ accepted v → (ask_state s r state e).asked ≡ Some e
+  pub erased : (x : Refusal) → ask_answer s r e ≡ refused x → (ask_state s r state e).asked ≡ None
 
 abbrev pub AsksTell : Type 0
 AsksTell = (s r : List ℕ) (state : Editing) (e : Edit) → AskTold s r state e
@@ -54,12 +55,12 @@ pub record KeepTried (s r : List ℕ) (state : Editing) : Type 1 where
   pub names : (x : Refusal) → (keep_answer s r state.asked ≡ refused x) ↔ FirstBroken (keep_checks s r state.asked) x
   -- the records come first, then "keeping with nothing asked .. is 61"
   pub records_first : (x : Refusal) → view_refusal s r ≡ some x → keep_answer s r state.asked ≡ refused x
-  pub where_nothing_asked : state.asked ≡ Asked.Nothing → view_refusal s r ≡ none → keep_answer s r state.asked ≡ refused_by 61
+  pub where_nothing_asked : state.asked ≡ None → view_refusal s r ≡ none → keep_answer s r state.asked ≡ refused_by 61
   -- "Keeping applies that one edit and answers as a direct one"
-  pub as_direct : (e : Edit) → state.asked ≡ Asked.Edit e
+  pub as_direct : (e : Edit) → state.asked ≡ Some e
       → (keep_answer s r state.asked ≡ edit_answer s r e) × (keep_bytes s r state.asked ≡ edit_bytes s r e)
   -- behind a kept edit nothing is asked, and "a refused keep changes nothing"
-  pub erased : keep_answer s r state.asked ≡ accepted tt → (keep_state s r state).asked ≡ Asked.Nothing
+  pub erased : keep_answer s r state.asked ≡ accepted tt → (keep_state s r state).asked ≡ None
   pub nothing_changed : (x : Refusal) → keep_answer s r state.asked ≡ refused x
       → (keep_bytes s r state.asked ≡ r) × (keep_state s r state ≡ state)
 
@@ -128,7 +129,7 @@ KeepsAreAnswered = (s r : List ℕ) (calls : List Call) → KeepAnswered s (entr
 -- The state after a mark or a clear, with any state and over any two lists of numbers.
 pub record EditLeaves (s r : List ℕ) (state : Editing) (e : Edit) : Type 0 where
   -- "Unrefused direct edits are kept edits": behind one nothing is asked
-  pub erased : edit_answer s r e ≡ accepted tt → (edit_state s r state e).asked ≡ Asked.Nothing
+  pub erased : edit_answer s r e ≡ accepted tt → (edit_state s r state e).asked ≡ None
   -- and a refused one leaves the state as it was
   pub nothing_changed : (x : Refusal) → edit_answer s r e ≡ refused x → edit_state s r state e ≡ state
 
@@ -157,7 +158,7 @@ DirectEdits = (s : List ℕ) (x : Session) (es : List Edit) → EditedDirectly s
 -- was handed on has an edit asked exactly where it is still asked, as seen from outside
 abbrev pub StatesFollow : Type 0
 StatesFollow = (calls : List Lent) (e : Edit)
-    → ((state_by nothing_asked calls).asked ≡ Asked.Edit e) ↔ ((v : Answer Figures) × StillAsked (seen_by nothing_asked calls) e v)
+    → ((state_by nothing_asked calls).asked ≡ Some e) ↔ ((v : Answer Figures) × StillAsked (seen_by nothing_asked calls) e v)
 
 -- ---- pages of several rounds
 

@@ -1,26 +1,30 @@
 -- "Try, then keep" (U9 of 02): the editing state, what an ask and a keep answer and what they leave, and a list of calls over one
 -- model, with the edits that were kept.
 -- Assumes nothing.
-use Rattle.std.specs.Prelude.{ℕ, Bool, true, false, List, [], ◌∷◌, ◌++◌, ◌≡◌}
+use Rattle.std.specs.Prelude as std
+use Rattle.std.specs.Prelude.{ℕ, Bool, true, false, List, [], ◌∷◌, ◌++◌, Some, None, ◌≡◌}
 use Rattle.std.proofs.Math.Option.{Option, some, none}
 use Rattle.schedule.specs.Rule.{Rule, first_break}
 use Rattle.schedule.specs.Model.{Model, model, model_form}
 use Rattle.schedule.specs.Plan.{Plan, plan, plan_form}
 use Rattle.schedule.specs.Answers.{Answer, Figures, answer, plain_verdict}
 use Rattle.edit_rules.specs.declared.Edit.{Edit}
-use Rattle.edit_rules.specs.declared.Asked.{Asked}
 use Rattle.edit_rules.specs.declared.Editing.{Editing}
 use Rattle.edit_rules.specs.Edits.{edit_rules, edit_checks, edit_answer, if_unrefused, edit_bytes}
 
 -- ---- the editing state
 
+-- what is asked: nothing, or one edit
+abbrev pub Asked : Type 0
+Asked = std.Option Edit
+
 -- "begins with nothing asked"
 abbrev pub nothing_asked : Editing
-nothing_asked = record { asked = Asked.Nothing }
+nothing_asked = record { asked = None }
 
 -- an edit is asked
 abbrev pub asking : Edit → Editing
-asking e = record { asked = Asked.Edit e }
+asking e = record { asked = Some e }
 
 -- the state after a mark or a clear: behind an unrefused one, which is a kept edit, nothing is asked
 unfoldable pub edit_state : List ℕ → List ℕ → Editing → Edit → Editing
@@ -40,8 +44,8 @@ ask_state s r state e = if_unrefused (ask_answer s r e) (asking e) nothing_asked
 -- ---- a keep
 
 abbrev pub is_asked : Asked → Bool
-is_asked Asked.Nothing = false
-is_asked (Asked.Edit e) = true
+is_asked None = false
+is_asked (Some e) = true
 
 -- 61 "keeping with nothing asked, or with any kept edit since the asking": a kept edit has left nothing asked
 unfoldable pub rule61 : Asked → Rule
@@ -49,14 +53,14 @@ rule61 asked = record {
   number = 61;
   rows = 1;
   columns = 1;
-  Holds = λ _ _. ¬ (asked ≡ Asked.Nothing);
+  Holds = λ _ _. ¬ (asked ≡ None);
   test = λ _ _. is_asked asked;
 }
 
 -- 58 to 60 of the edit that is asked
 abbrev pub asked_rules : Model → Plan → Asked → List Rule
-asked_rules m p Asked.Nothing = []
-asked_rules m p (Asked.Edit e) = edit_rules m p e
+asked_rules m p None = []
+asked_rules m p (Some e) = edit_rules m p e
 
 -- "61, tried between 14 and 58": the rules that a keep tries, in their order
 unfoldable pub keep_checks : List ℕ → List ℕ → Asked → List Rule
@@ -69,8 +73,8 @@ keep_answer s r asked = answer (first_break (keep_checks s r asked)) tt
 
 -- what it leaves in the lent plan: "Keeping applies that one edit"
 unfoldable pub keep_bytes : List ℕ → List ℕ → Asked → List ℕ
-keep_bytes s r Asked.Nothing = r
-keep_bytes s r (Asked.Edit e) = edit_bytes s r e
+keep_bytes s r None = r
+keep_bytes s r (Some e) = edit_bytes s r e
 
 -- the state after it: an unrefused keep is a kept edit, and "a refused keep changes nothing"
 unfoldable pub keep_state : List ℕ → List ℕ → Editing → Editing

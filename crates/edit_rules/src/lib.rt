@@ -2,6 +2,10 @@
 // and values for each case; the calls themselves are those of crate edits.
 #![tactic(auto)]
 
+ghost use Rattle.std.specs.Prelude.{◌≡◌};
+ghost use Rattle.edit_rules.specs.declared.Reason.{Reason};
+ghost use Rattle.edit_rules.specs.declared.Unkept.{Unkept};
+
 use schedule::{Refusal, Verdict};
 
 // An edit of an activity's bit at a tick: a mark where `on`, and otherwise a clear.
@@ -12,17 +16,11 @@ pub struct Edit {
     pub tick: u32,
 }
 
-// What is asked: nothing, or one edit.
-#[derive(Clone, Copy)]
-pub enum Asked {
-    Nothing,
-    Edit(Edit),
-}
-
-// "An editing state .. goes through all these calls and the direct edits": it comes in by value and goes out by value.
+// "An editing state .. goes through all these calls and the direct edits": it comes in by value and goes out by value. Nothing is
+// asked, or one edit is.
 #[derive(Clone, Copy)]
 pub struct Editing {
-    pub asked: Asked,
+    pub asked: Option<Edit>,
 }
 
 // Refusals 58 to 60, of the edit itself. They name no place.
@@ -43,12 +41,16 @@ pub enum Reason {
     Edit(EditRefusal),
 }
 
-// What a mark or a clear answers: "An unrefused call answers no figure."
-#[derive(Clone, Copy)]
-pub enum Edited {
-    Done,
-    Refused(Reason),
+impl From<Refusal> for Reason {
+    ghost from_gives = { λ x y. y ≡ Reason.Record x };
+
+    fn from(x: Refusal) -> Reason {
+        Reason::Record(x)
+    }
 }
+
+// What a mark or a clear answers: "An unrefused call answers no figure."
+pub type Edited = Result<(), Reason>;
 
 // Why a keep is refused.
 #[derive(Clone, Copy)]
@@ -59,38 +61,24 @@ pub enum Unkept {
     Edit(Reason),
 }
 
-// What a keep answers: no figure either.
-#[derive(Clone, Copy)]
-pub enum Kept {
-    Done,
-    Refused(Unkept),
+impl From<Reason> for Unkept {
+    ghost from_gives = { λ x y. y ≡ Unkept.Edit x };
+
+    fn from(x: Reason) -> Unkept {
+        Unkept::Edit(x)
+    }
 }
+
+// What a keep answers: no figure either.
+pub type Kept = Result<(), Unkept>;
 
 // What an ask answers: "the plain verdict that the plan would have", which is accepted or one of 21 to 29; or why the edit would
 // be refused.
-#[derive(Clone, Copy)]
-pub enum Told {
-    Verdict(Verdict),
-    Refused(Reason),
-}
+pub type Told = Result<Verdict, Reason>;
 
-// What a mark or a clear answers, and the state afterwards.
+// What a call answers, and the state afterwards.
 #[derive(Clone, Copy)]
-pub struct Step {
-    pub answer: Edited,
-    pub state: Editing,
-}
-
-// What a keep answers, and the state afterwards.
-#[derive(Clone, Copy)]
-pub struct KeepStep {
-    pub answer: Kept,
-    pub state: Editing,
-}
-
-// What an ask answers, and the state afterwards.
-#[derive(Clone, Copy)]
-pub struct AskStep {
-    pub answer: Told,
+pub struct Step<T> {
+    pub answer: T,
     pub state: Editing,
 }

@@ -14,15 +14,14 @@ use Rattle.schedule.specs.Numbers.{refusal_numbers}
 use Rattle.schedule.specs.declared.Refusal.{Refusal}
 use Rattle.laws.proofs.PlanBytes.{ReadsBack, reads_back, word_behind}
 use Rattle.fields.specs.Put.{put}
-use Rattle.records.specs.declared.Pass.{Pass}
 use Rattle.records.specs.Reads.{pass_numbers}
 use Rattle.records.proofs.PlanWrites.{with_word, plan-fits, plan-whole, row_put, word-put}
 use Rattle.edit_rules.specs.declared.Edit.{Edit}
 use Rattle.edit_rules.specs.declared.Reason.{Reason}
-use Rattle.edit_rules.specs.declared.Edited.{Edited}
 use Rattle.edit_rules.specs.Edits.{word_with, edited_word, first_marked, past_marked, edited_plan}
 use Rattle.edit_rules.specs.Edits.{edit_answer, edit_bytes}
-use Rattle.edit_rules.specs.EditNumbers.{reason_numbers, edited_numbers}
+use Rattle.std.specs.Prelude.{Result, Ok, Err}
+use Rattle.edit_rules.specs.EditNumbers.{Edited, reason_numbers, edited_numbers}
 use Rattle.edit_rules.proofs.MarkedLaws.{first_ext, past_ext}
 use Rattle.edit_rules.proofs.AnswerLaws.{edits_are_tried, rules_answer, behind_records, passed}
 use Rattle.edit_rules.proofs.OneEdit.{marked, in_plan, worded_fits, edit_leaves}
@@ -94,22 +93,22 @@ module _ (r : List ℕ) (e : Edit) (b : Bytes r) (ok : Editable r e) where
 -- ---- what is handed on
 
 -- the records are refused, or pass
-pub records_refused : (s r : List ℕ) (e : Edit) (pass : Pass) → pass_numbers pass ≡ view_refusal s r
-    → (x : Refusal) → pass ≡ Pass.Refused x → refused (refusal_numbers x) ≡ edit_answer s r e
+pub records_refused : (s r : List ℕ) (e : Edit) (pass : Result (Unit {0}) Refusal) → pass_numbers pass ≡ view_refusal s r
+    → (x : Refusal) → pass ≡ Err x → refused (refusal_numbers x) ≡ edit_answer s r e
 records_refused s r e pass told x is =
     sym ((edits_are_tried s r e).records_first (refusal_numbers x) (sym told ∙ ap pass_numbers is))
 
-pub records_pass : (s r : List ℕ) (e : Edit) (pass : Pass) → pass_numbers pass ≡ view_refusal s r → pass ≡ Pass.Holds
+pub records_pass : (s r : List ℕ) (e : Edit) (pass : Result (Unit {0}) Refusal) → pass_numbers pass ≡ view_refusal s r → pass ≡ Ok tt
     → rules_answer (model s) (plan r) e ≡ edit_answer s r e
 records_pass s r e pass told is = sym (behind_records s r e (sym told ∙ ap pass_numbers is))
 
 -- the call is refused, or the edit is made
 pub refused-leaves : (s r : List ℕ) (e : Edit) (said : Edited) → edited_numbers said ≡ edit_answer s r e
-    → (why : Reason) → said ≡ Edited.Refused why → r ≡ edit_bytes s r e
+    → (why : Reason) → said ≡ Err why → r ≡ edit_bytes s r e
 refused-leaves s r e said told why is =
     sym ((edits_are_tried s r e).nothing_changed (reason_numbers why) (sym told ∙ ap edited_numbers is))
 
-pub is_done : (s r : List ℕ) (e : Edit) (said : Edited) → edited_numbers said ≡ edit_answer s r e → said ≡ Edited.Done
+pub is_done : (s r : List ℕ) (e : Edit) (said : Edited) → edited_numbers said ≡ edit_answer s r e → said ≡ Ok tt
     → edit_answer s r e ≡ accepted tt
 is_done s r e said told is = sym told ∙ ap edited_numbers is
 

@@ -2,19 +2,18 @@
 // the pencil mark counts" (U9 of 02): the calls that an editing state goes through.
 #![tactic(auto)]
 
-ghost use Rattle.std.specs.Prelude.{not, cond, ◌≡◌, length};
+ghost use Rattle.std.specs.Prelude.{not, cond, ◌≡◌, length, None};
 ghost use Rattle.schedule.specs.Rule.{first_break};
 ghost use Rattle.schedule.specs.Model.{model};
 ghost use Rattle.schedule.specs.Plan.{plan};
-ghost use Rattle.schedule.specs.Answers.{accepted, refused, answer, plain_verdict};
+ghost use Rattle.schedule.specs.Answers.{accepted, answer, plain_verdict};
 ghost use Rattle.schedule.specs.Numbers.{numbers_of, verdict_numbers};
 ghost use Rattle.edit_rules.specs.Edits.{marking, clearing, edit_rules, edit_answer, edit_bytes};
 ghost use Rattle.edit_rules.specs.EditNumbers.{edit_number, reason_numbers, edited_numbers, unkept_numbers, kept_numbers, told_numbers};
 ghost use Rattle.edit_rules.specs.Keeping.{nothing_asked, ask_answer, ask_state, edit_state, keep_answer, keep_bytes, keep_state};
 
-use edit_rules::{AskStep, Asked, Editing, KeepStep, Kept, Step, Told, Unkept};
+use edit_rules::{Editing, Kept, Step, Told, Unkept};
 pub use edit_rules::{Edit, EditRefusal, Edited, Reason};
-use records::Pass;
 use schedule::{Numbered, Verdict};
 
 mod stroke;
@@ -75,26 +74,23 @@ fn rules(s: &[u8], r: &[u8], e: Edit) -> Edited
 {
     let sizes = records::model::counts(s);
     if sizes.activities as u32 <= e.activity {
-        return Edited::Refused(Reason::Edit(EditRefusal::Activity));
+        return Err(Reason::Edit(EditRefusal::Activity));
     }
     if sizes.horizon as u32 <= e.tick {
-        return Edited::Refused(Reason::Edit(EditRefusal::Tick));
+        return Err(Reason::Edit(EditRefusal::Tick));
     }
     let word = records::plan::word(r, e.tick as u16);
     if already(e, bits::has(word, e.activity)) {
-        return Edited::Refused(Reason::Edit(EditRefusal::Bit));
+        return Err(Reason::Edit(EditRefusal::Bit));
     }
-    Edited::Done
+    Ok(())
 }
 
 // What a mark or a clear answers: the form of the two records, and "after 1 to 14" 58 to 60.
 fn tried(s: &[u8], r: &[u8], e: Edit) -> Edited
     ensures { edited_numbers result ≡ edit_answer s.now r.now e }
 {
-    let form = view::refusal(s, r);
-    if let Pass::Refused(why) = form {
-        return Edited::Refused(Reason::Record(why));
-    }
+    view::refusal(s, r)?;
     rules(s, r, e)
 }
 
@@ -103,12 +99,9 @@ fn apply(s: &[u8], r: &mut [u8], e: Edit) -> Edited
     ensures { (edited_numbers result ≡ edit_answer s.now r.old e)
         × (r.new ≡ edit_bytes s.now r.old e) }
 {
-    let said = tried(s, r, e);
-    let Edited::Done = said else {
-        return said;
-    };
+    tried(s, r, e)?;
     stroke::make(r, e);
-    Edited::Done
+    Ok(())
 }
 
 // ---- the calls without a state
@@ -176,95 +169,90 @@ fn verdict_after(s: &[u8], r: &[u8], e: Edit) -> Verdict
 pub fn begin() -> Editing
     ensures { result ≡ nothing_asked }
 {
-    Editing {
-        asked: Asked::Nothing,
-    }
+    Editing { asked: None }
 }
 
 // A direct edit with the state: an unrefused one leaves nothing asked.
-fn apply_with(state: Editing, s: &[u8], r: &mut [u8], e: Edit) -> Step
+fn apply_with(state: Editing, s: &[u8], r: &mut [u8], e: Edit) -> Step<Edited>
     ensures { (edited_numbers result.answer ≡ edit_answer s.now r.old e)
         × (result.state ≡ edit_state s.now r.old state e)
         × (r.new ≡ edit_bytes s.now r.old e) }
 {
-    let said = apply(s, r, e);
-    let Edited::Done = said else {
-        return Step {
-            answer: said,
+    match apply(s, r, e) {
+        Ok(()) => Step {
+            answer: Ok(()),
+            state: begin(),
+        },
+        Err(why) => Step {
+            answer: Err(why),
             state,
-        };
-    };
-    Step {
-        answer: Edited::Done,
-        state: begin(),
+        },
     }
 }
 
-// Why a keep with nothing asked is refused: by the form of a record, and behind it by 61.
-fn unkept(s: &[u8], r: &[u8]) -> Unkept
-    ensures { refused (unkept_numbers result) ≡ keep_answer s.now r.now Asked.Nothing }
+// A keep with nothing asked is refused: by the form of a record, and behind it by 61.
+fn unkept(s: &[u8], r: &[u8]) -> Kept
+    ensures { kept_numbers result ≡ keep_answer s.now r.now None }
 {
-    let form = view::refusal(s, r);
-    if let Pass::Refused(why) = form {
-        return Unkept::Edit(Reason::Record(why));
+    match view::refusal(s, r) {
+        Ok(()) => Err(Unkept::NothingAsked),
+        Err(why) => Err(Unkept::Edit(Reason::Record(why))),
     }
-    Unkept::NothingAsked
 }
 
 // What a direct edit answered, as a keep answers it.
 fn kept(said: Edited) -> Kept
     ensures { kept_numbers result ≡ edited_numbers said }
 {
-    match said {
-        Edited::Done => Kept::Done,
-        Edited::Refused(why) => Kept::Refused(Unkept::Edit(why)),
-    }
+    Ok(said?)
 }
 
 // ---- the calls with a state
 
 // Asks for a mark or a clear: the plain verdict that the plan would have. Whatever was asked before is asked no more.
-pub fn ask(state: Editing, model: &[u8], plan: &[u8], e: Edit) -> AskStep
+pub fn ask(state: Editing, model: &[u8], plan: &[u8], e: Edit) -> Step<Told>
     ensures { (told_numbers result.answer ≡ ask_answer model.now plan.now e)
         × (result.state ≡ ask_state model.now plan.now state e) }
 {
-    let said = tried(model, plan, e);
-    if let Edited::Refused(why) = said {
-        return AskStep {
-            answer: Told::Refused(why),
+    match tried(model, plan, e) {
+        Ok(()) => Step {
+            answer: Ok(verdict_after(model, plan, e)),
+            state: Editing { asked: Some(e) },
+        },
+        Err(why) => Step {
+            answer: Err(why),
             state: begin(),
-        };
-    }
-    AskStep {
-        answer: Told::Verdict(verdict_after(model, plan, e)),
-        state: Editing {
-            asked: Asked::Edit(e),
         },
     }
 }
 
 // Keeps the edit that is asked.
-pub fn keep(state: Editing, model: &[u8], plan: &mut [u8]) -> KeepStep
+pub fn keep(state: Editing, model: &[u8], plan: &mut [u8]) -> Step<Kept>
     ensures { (kept_numbers result.answer ≡ keep_answer model.now plan.old state.asked)
         × (result.state ≡ keep_state model.now plan.old state)
         × (plan.new ≡ keep_bytes model.now plan.old state.asked) }
 {
-    let asked = state.asked;
-    let Asked::Edit(e) = asked else {
-        return KeepStep {
-            answer: Kept::Refused(unkept(model, plan)),
+    let Some(e) = state.asked else {
+        return Step {
+            answer: unkept(model, plan),
             state,
         };
     };
     let step = apply_with(state, model, plan, e);
-    KeepStep {
+    Step {
         answer: kept(step.answer),
         state: step.state,
     }
 }
 
 // Marks an activity at a tick, a kept edit where it is not refused.
-pub fn mark_with(state: Editing, model: &[u8], plan: &mut [u8], activity: u32, tick: u32) -> Step
+pub fn mark_with(
+    state: Editing,
+    model: &[u8],
+    plan: &mut [u8],
+    activity: u32,
+    tick: u32,
+) -> Step<Edited>
     ensures { (edited_numbers result.answer ≡ edit_answer model.now plan.old (marking activity tick))
         × (result.state ≡ edit_state model.now plan.old state (marking activity tick))
         × (plan.new ≡ edit_bytes model.now plan.old (marking activity tick)) }
@@ -282,7 +270,13 @@ pub fn mark_with(state: Editing, model: &[u8], plan: &mut [u8], activity: u32, t
 }
 
 // Clears an activity at a tick, a kept edit where it is not refused.
-pub fn clear_with(state: Editing, model: &[u8], plan: &mut [u8], activity: u32, tick: u32) -> Step
+pub fn clear_with(
+    state: Editing,
+    model: &[u8],
+    plan: &mut [u8],
+    activity: u32,
+    tick: u32,
+) -> Step<Edited>
     ensures { (edited_numbers result.answer ≡ edit_answer model.now plan.old (clearing activity tick))
         × (result.state ≡ edit_state model.now plan.old state (clearing activity tick))
         × (plan.new ≡ edit_bytes model.now plan.old (clearing activity tick)) }

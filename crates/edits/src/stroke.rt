@@ -38,11 +38,9 @@ fn row_in(grid: &[u8], h: u16, a: u32) -> Span
         × (result.end ≡ past_marked h (λ t. bit (word_in grid.now t) a)) }
 {
     let mut row = Span { start: 0, end: 0 };
-    let mut t: u16 = 0;
-    while t < h {
+    for t in 0..h {
         let word = records::grid::word(grid, t as usize);
         row = seen(row, t, bits::has(word, a));
-        t += 1;
     }
     row
 }

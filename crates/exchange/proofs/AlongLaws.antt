@@ -11,6 +11,7 @@ use mathlib.Core.Option.{Option, some, none}
 use mathlib.Core.Path.{◌≡◌, refl, sym, subst, ap, ap₂, ◌∙◌}
 use borrow.Author.Tests.{leb-true}
 use denote.Ref.{Bor}
+use Rattle.std.specs.Prelude.{Result, Ok, Err}
 use lib.Dec.{leb}
 use lib.ListN.{length, take, drop, length-drop}
 use lib.Seq.{length-take-le, drop-cons}
@@ -19,25 +20,24 @@ use Rattle.schedule.specs.Answers.{Answer, accepted, refused, answer}
 use Rattle.schedule.specs.Exchange.{wrapper_rule, record_rules, outranks, at_record, along, standing, record_at, both_of}
 use Rattle.schedule.specs.Exchange.{handed_back, part_of, placed}
 use Rattle.schedule.specs.Exchange.{pair_answer, pair_bytes, HandsBack, record_end, records_of, offset_in, file_answer}
-use Rattle.schedule.specs.Numbers.{wrap_numbers, standing_numbers, part_numbers}
+use Rattle.schedule.specs.Numbers.{wrap_numbers, Standing, standing_numbers, part_numbers}
 use Rattle.schedule.specs.declared.Part.{Part}
-use Rattle.schedule.specs.declared.Standing.{Standing}
+use Rattle.schedule.specs.declared.Side.{Side}
 use Rattle.schedule.specs.declared.WrapRefusal.{WrapRefusal}
 use Rattle.laws.proofs.VerdictLaws.{accepted_is_not-refused}
 use Rattle.laws.proofs.WrappedLaws.{is_right, turned, onwards, standing-first}
 use Rattle.laws.proofs.FileRecords.{end_le, end_above, records_cons, records_none, Reached, reached_start, Next, next, none_left}
-use Rattle.exchange.specs.declared.Compared.{Compared}
 use Rattle.exchange.specs.Compares.{compared_numbers}
 use Rattle.exchange.proofs.RecordLaws.{right_by}
 
 -- ---- a step
 
 -- what record w is found to be beside x, the one standing so far
-abbrev Beside : List ℕ → List ℕ → Compared → Type 0
+abbrev Beside : List ℕ → List ℕ → Result Bool WrapRefusal → Type 0
 Beside x w found = compared_numbers found ≡ answer (first_break (record_rules x w)) (outranks w x)
 
-pub along-refused : (k r : ℕ) (x w : List ℕ) (ws : List (List ℕ)) (found : Compared) (why : WrapRefusal)
-    → Beside x w found → found ≡ Compared.Refused why → along k r x (w ∷ ws) ≡ refused (wrap_numbers why k)
+pub along-refused : (k r : ℕ) (x w : List ℕ) (ws : List (List ℕ)) (found : Result Bool WrapRefusal) (why : WrapRefusal)
+    → Beside x w found → found ≡ Err why → along k r x (w ∷ ws) ≡ refused (wrap_numbers why k)
 unfolding along answer
 along-refused k r x w ws found why h e =
     by (first_break (record_rules x w)) (outranks w x) (along (k + 1) k w ws) (along (k + 1) r x ws)
@@ -50,8 +50,8 @@ along-refused k r x w ws found why h e =
         let same : y ≡ wrap_numbers why 0 = cc in
         ap (λ (z : Refusal). refused (at_record k z)) same
 
-pub along-taken : (k r : ℕ) (x w : List ℕ) (ws : List (List ℕ)) (found : Compared) (above : Bool)
-    → Beside x w found → found ≡ Compared.Taken above
+pub along-taken : (k r : ℕ) (x w : List ℕ) (ws : List (List ℕ)) (found : Result Bool WrapRefusal) (above : Bool)
+    → Beside x w found → found ≡ Ok above
     → along k r x (w ∷ ws) ≡ cond above (along (k + 1) k w ws) (along (k + 1) r x ws)
 unfolding along answer
 along-taken k r x w ws found above h e =
@@ -74,12 +74,12 @@ pair-right : (x y : List ℕ) → is_right x ≡ true → pair_answer x y ≡ al
 unfolding pair_answer
 pair-right x y e = standing-first x (y ∷ []) ∙ ap (λ (b : Bool). cond b (along 1 0 x (y ∷ [])) (turned 54 0)) e
 
-pub pair-refused : (x y : List ℕ) (found : Compared) (why : WrapRefusal) → is_right x ≡ true → Beside x y found
-    → found ≡ Compared.Refused why → pair_answer x y ≡ refused (wrap_numbers why 1)
+pub pair-refused : (x y : List ℕ) (found : Result Bool WrapRefusal) (why : WrapRefusal) → is_right x ≡ true → Beside x y found
+    → found ≡ Err why → pair_answer x y ≡ refused (wrap_numbers why 1)
 pair-refused x y found why r h e = pair-right x y r ∙ along-refused 1 0 x y [] found why h e
 
-pub pair-taken : (x y : List ℕ) (found : Compared) (above : Bool) → is_right x ≡ true → Beside x y found
-    → found ≡ Compared.Taken above → pair_answer x y ≡ cond above (accepted 1) (accepted 0)
+pub pair-taken : (x y : List ℕ) (found : Result Bool WrapRefusal) (above : Bool) → is_right x ≡ true → Beside x y found
+    → found ≡ Ok above → pair_answer x y ≡ cond above (accepted 1) (accepted 0)
 unfolding along
 pair-taken x y found above r h e = pair-right x y r ∙ along-taken 1 0 x y [] found above h e
 
@@ -91,9 +91,9 @@ named-bytes found x y r answered h =
     by found h ∙ ap (handed_back (both_of x.now y.now)) answered
   where
     by : (f : Standing) → HandsBack (standing_numbers f) x y r → r.now ≡ handed_back (both_of x.now y.now) (standing_numbers f)
-    by Standing.First e = ap (λ (z : Bor (List ℕ)). z.now) e
-    by Standing.Second e = ap (λ (z : Bor (List ℕ)). z.now) e
-    by (Standing.Refused why k) e = e.0
+    by (Ok Side.First) e = ap (λ (z : Bor (List ℕ)). z.now) e
+    by (Ok Side.Second) e = ap (λ (z : Bor (List ℕ)). z.now) e
+    by (Err x) e = e.0
 
 -- ---- along a file
 
@@ -193,8 +193,8 @@ abbrev pub bytes_at : List ℕ → Part → List ℕ
 bytes_at f x = take x.length (drop x.offset f)
 
 pub step-refused : (f : List ℕ) (x : Part) (index at : ℕ) → Along f x index at → at < length f
-    → (found : Compared) (why : WrapRefusal) → Beside (bytes_at f x) (bytes_at f (part_at f index at)) found
-    → found ≡ Compared.Refused why → file_answer f ≡ refused (wrap_numbers why index)
+    → (found : Result Bool WrapRefusal) (why : WrapRefusal) → Beside (bytes_at f x) (bytes_at f (part_at f index at)) found
+    → found ≡ Err why → file_answer f ≡ refused (wrap_numbers why index)
 unfolding file_answer placed
 step-refused f x index at h l found why b e =
     ap (placed (offset_in (records_of f)) (records_of f))
@@ -202,8 +202,8 @@ step-refused f x index at h l found why b e =
     ∙ along-refused index x.index (bytes_at f x) (bytes_at f (part_at f index at)) _ found why b e)
 
 pub step-taken : (f : List ℕ) (x : Part) (index at : ℕ) → Along f x index at → at < length f
-    → (found : Compared) (above : Bool) → Beside (bytes_at f x) (bytes_at f (part_at f index at)) found
-    → found ≡ Compared.Taken above
+    → (found : Result Bool WrapRefusal) (above : Bool) → Beside (bytes_at f x) (bytes_at f (part_at f index at)) found
+    → found ≡ Ok above
     → Along f (cond above (part_at f index at) x) (index + 1) (at + record_end (drop at f))
 step-taken f x index at h l found above b e = by above (along-taken index x.index X W more found above b e)
   where
@@ -279,16 +279,16 @@ ends-inside f x index at e l =
     (end_above (drop at f) (omega (arith, l, length-drop at f)), omega (arith, l, end_le (drop at f), length-drop at f))
 
 pub next_refused : (f : List ℕ) (x y : Part) (index at : ℕ) (X W : List ℕ) → Along f x index at → at < length f
-    → y ≡ part_at f index at → X ≡ bytes_at f x → W ≡ bytes_at f y → (found : Compared) (why : WrapRefusal)
-    → Beside X W found → found ≡ Compared.Refused why → file_answer f ≡ refused (wrap_numbers why index)
+    → y ≡ part_at f index at → X ≡ bytes_at f x → W ≡ bytes_at f y → (found : Result Bool WrapRefusal) (why : WrapRefusal)
+    → Beside X W found → found ≡ Err why → file_answer f ≡ refused (wrap_numbers why index)
 next_refused f x y index at X W h l e d_x d_w found why b =
     step-refused f x index at h l found why
     (subst (λ (w : List ℕ). Beside (bytes_at f x) w found) (d_w ∙ ap (bytes_at f) e)
     (subst (λ (w : List ℕ). Beside w W found) d_x b))
 
 pub next_taken : (f : List ℕ) (x y z : Part) (index at : ℕ) (X W : List ℕ) → Along f x index at → at < length f
-    → y ≡ part_at f index at → X ≡ bytes_at f x → W ≡ bytes_at f y → (found : Compared) (above : Bool)
-    → Beside X W found → found ≡ Compared.Taken above → z ≡ cond above y x → Along f z (index + 1) (at + y.length)
+    → y ≡ part_at f index at → X ≡ bytes_at f x → W ≡ bytes_at f y → (found : Result Bool WrapRefusal) (above : Bool)
+    → Beside X W found → found ≡ Ok above → z ≡ cond above y x → Along f z (index + 1) (at + y.length)
 next_taken f x y z index at X W h l e d_x d_w found above b t u =
     subst (λ (v : Part). Along f v (index + 1) (at + y.length)) (sym u)
     (subst (λ (v : Part). Along f (cond above v x) (index + 1) (at + v.length)) (sym e)

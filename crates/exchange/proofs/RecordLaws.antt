@@ -1,16 +1,17 @@
 -- One record by its tests, and beside the one standing so far; two byte strings compared byte by byte.
 -- Assumes nothing.
-use Prim.Native.Nat.{ℕ, suc, ◌+◌, ◌-◌, ◌≤◌, ◌<◌}
+use Prim.Native.Nat.{ℕ, ◌-◌}
 use native.Mathlib.Decide.{dec_lt, ℕ_discrete}
-use native.Mathlib.Numerals.{add-one}
 use native.Mathlib.Omega.{arith}
 use mathlib.Core.Bool.{Bool, true, false, ◌&&◌, ◌||◌, cond}
 use mathlib.Core.List.{List, [], ◌∷◌}
 use mathlib.Core.Option.{Option, some, none}
 use mathlib.Core.Path.{◌≡◌, refl, sym, subst, ap, ◌∙◌}
 use lib.Dec.{eqb, leb, ltb}
-use lib.ListN.{length, get_or, take, drop, length-drop, drop_of_length-le}
-use lib.Seq.{take_all, drop-cons}
+use lib.ListN.{length, take, drop, length-drop}
+use lib.Seq.{take_all}
+use Rattle.std.specs.Cmp.Lexicographic.{pointwise}
+use Rattle.std.specs.Prelude.{Result, Ok, Err, is_ok}
 use borrow.Author.Tests.{eq-eqb, ne_eqb, le-ltb, le-leb, lt-leb}
 use Rattle.schedule.specs.Bounded.{first}
 use Rattle.schedule.specs.Fields.{field}
@@ -21,7 +22,6 @@ use Rattle.schedule.specs.Answers.{Answer, accepted, refused, answer}
 use Rattle.schedule.specs.Numbers.{refusal_numbers}
 use Rattle.schedule.specs.declared.Refusal as declared
 use Rattle.records.specs.declared.model.Sizes.{Sizes}
-use Rattle.records.specs.declared.model.ModelRead.{ModelRead}
 use Rattle.records.specs.Reads.{model_read_numbers}
 use Rattle.schedule.specs.Exchange.{issue, withdrawn, wrapped, unbroken, flag_rule, wrapper_form, wrapper_rule, series_rule}
 use Rattle.schedule.specs.Exchange.{same, copy_rule, record_rules, outranks}
@@ -47,19 +47,14 @@ unfolding answer
 read_refused none y x e = absurd (accepted_is_not-refused y x (sym e))
 read_refused (some z) y x e = refl
 
-pub model-whole : (w : List ℕ) (r : ModelRead) (y f : Sizes)
-    → model_read_numbers r ≡ answer (first_break (model_form (take (length w - 12) (drop 12 w)))) y → r ≡ ModelRead.Model f
-    → true ≡ unbroken (first_break (model_form (wrapped w)))
-model-whole w r y f said told =
-    read_whole (first_break (model_form (take (length w - 12) (drop 12 w)))) y f (sym (ap model_read_numbers told) ∙ said)
+pub model-tells : (w : List ℕ) (r : Result Sizes declared.Refusal) (y : Sizes)
+    → model_read_numbers r ≡ answer (first_break (model_form (take (length w - 12) (drop 12 w)))) y
+    → is_ok r ≡ unbroken (first_break (model_form (wrapped w)))
+model-tells w (Ok f) y said =
+    read_whole (first_break (model_form (take (length w - 12) (drop 12 w)))) y f said
     ∙ ap (λ (s : List ℕ). unbroken (first_break (model_form s))) (left_from w 12)
-
-pub model-refused : (w : List ℕ) (r : ModelRead) (y : Sizes) (x : declared.Refusal)
-    → model_read_numbers r ≡ answer (first_break (model_form (take (length w - 12) (drop 12 w)))) y → r ≡ ModelRead.Refused x
-    → false ≡ unbroken (first_break (model_form (wrapped w)))
-model-refused w r y x said told =
-    read_refused (first_break (model_form (take (length w - 12) (drop 12 w)))) y (refusal_numbers x)
-    (sym (ap model_read_numbers told) ∙ said)
+model-tells w (Err x) y said =
+    read_refused (first_break (model_form (take (length w - 12) (drop 12 w)))) y (refusal_numbers x) said
     ∙ ap (λ (s : List ℕ). unbroken (first_break (model_form s))) (left_from w 12)
 
 one_only : (v : ℕ) → within 1 1 v ≡ eqb v 1
@@ -131,22 +126,10 @@ taken_above a false e = ap accepted e
 
 -- ---- two byte strings
 
-pub same_lengths : (x y : List ℕ) → ¬ (length x ≡ length y) → same x y ≡ false
+-- what the language's own comparison answers
+pub same_as : (x y : List ℕ) → pointwise eqb x y ≡ same x y
 unfolding same
-same_lengths [] [] n = absurd (n refl)
-same_lengths [] (b ∷ y) n = refl
-same_lengths (a ∷ x) [] n = refl
-same_lengths (a ∷ x) (b ∷ y) n = by (eqb a b) (same_lengths x y (λ e. n (ap suc e)))
-  where
-    by : (t : Bool) → same x y ≡ false → (t && same x y) ≡ false
-    by true e = e
-    by false e = refl
-
-pub same_step : (x y : List ℕ) (i : ℕ) → i < length x → i < length y
-    → same (drop i x) (drop i y) ≡ (eqb (get_or x i 0) (get_or y i 0) && same (drop (i + 1) x) (drop (i + 1) y))
-unfolding same
-same_step x y i l m = rw (add-one, drop-cons x i 0 l, drop-cons y i 0 m) refl
-
-pub same_end : (x y : List ℕ) (i : ℕ) → length x ≤ i → length y ≤ i → same (drop i x) (drop i y) ≡ true
-unfolding same
-same_end x y i l m = rw (drop_of_length-le x {i = i} l, drop_of_length-le y {i = i} m) refl
+same_as [] [] = refl
+same_as [] (b ∷ y) = refl
+same_as (a ∷ x) [] = refl
+same_as (a ∷ x) (b ∷ y) = ap (λ (t : Bool). eqb a b && t) (same_as x y)

@@ -14,8 +14,7 @@ ghost use Rattle.schedule.specs.Numbers.{standing_numbers, chosen_numbers};
 ghost use Rattle.exchange.specs.Compares.{compared_numbers};
 
 use records::model;
-use records::model::ModelRead;
-use schedule::{Chosen, Part, Standing, WrapRefusal};
+use schedule::{Chosen, Part, Side, Standing, WrapRefusal, WrapRefused};
 
 // ---- one record: "4-byte length, version byte 1, series (4 bytes), issue (2), withdrawn (0 or 1), then the model record"
 
@@ -45,11 +44,7 @@ fn model_holds(w: &[u8]) -> bool
     requires { 12 ≤ length w.now }
     ensures { result ≡ unbroken (first_break (model_form (wrapped w.now))) }
 {
-    let read = model::read(&w[WRAPPER..]);
-    match read {
-        ModelRead::Model(_) => true,
-        ModelRead::Refused(_) => false,
-    }
+    model::read(&w[WRAPPER..]).is_ok()
 }
 
 // 54 "a wrapper whose length .., version or flag is wrong or whose model is refused"; its length is the bytes given.
@@ -73,31 +68,6 @@ fn wrapper_holds(w: &[u8]) -> bool
 
 // ---- one record beside the one standing so far
 
-// What a record is found to be beside the one standing so far: taken, and whether it outranks that one; or refused.
-#[derive(Clone, Copy)]
-enum Compared {
-    Taken(bool),
-    Refused(WrapRefusal),
-}
-
-// The same bytes.
-fn same(x: &[u8], y: &[u8]) -> bool
-    ensures { result ≡ same x.now y.now }
-{
-    let n = x.len();
-    if n != y.len() {
-        return false;
-    }
-    let mut i = 0;
-    while i < n {
-        if x[i] != y[i] {
-            return false;
-        }
-        i += 1;
-    }
-    true
-}
-
 // 55 "two series"
 fn series_holds(x: &[u8], w: &[u8]) -> bool
     ensures { result ≡ (series_rule x.now w.now).test 0 0 }
@@ -118,7 +88,7 @@ fn copy_holds(x: &[u8], w: &[u8]) -> bool
     if withdrawn(w) != withdrawn(x) {
         return true;
     }
-    same(w, x)
+    w == x
 }
 
 // "the higher issue stands; at equal issue the withdrawn one stands over the live one"
@@ -131,21 +101,21 @@ fn outranks(x: &[u8], y: &[u8]) -> bool
     withdrawn(y) < withdrawn(x)
 }
 
-// Record w beside x, the one standing so far: 54, "then 55 .. then 56", then the ranks.
-fn compare(x: &[u8], w: &[u8]) -> Compared
+// Record w beside x, the one standing so far: 54, "then 55 .. then 56", then whether it outranks that one.
+fn compare(x: &[u8], w: &[u8]) -> Result<bool, WrapRefusal>
     ensures { compared_numbers result
         ≡ answer (first_break (record_rules x.now w.now)) (outranks w.now x.now) }
 {
     if !wrapper_holds(w) {
-        return Compared::Refused(WrapRefusal::Wrapper);
+        return Err(WrapRefusal::Wrapper);
     }
     if !series_holds(x, w) {
-        return Compared::Refused(WrapRefusal::Series);
+        return Err(WrapRefusal::Series);
     }
     if !copy_holds(x, w) {
-        return Compared::Refused(WrapRefusal::Copy);
+        return Err(WrapRefusal::Copy);
     }
-    Compared::Taken(outranks(w, x))
+    Ok(outranks(w, x))
 }
 
 // ---- a pair
@@ -155,18 +125,15 @@ pub fn which_stands(first: &[u8], second: &[u8]) -> Standing
     ensures { standing_numbers result ≡ pair_answer first.now second.now }
 {
     if !wrapper_holds(first) {
-        return Standing::Refused(WrapRefusal::Wrapper, 0);
+        return Err(WrapRefused {
+            why: WrapRefusal::Wrapper,
+            index: 0,
+        });
     }
-    let found = compare(first, second);
-    match found {
-        Compared::Refused(why) => Standing::Refused(why, 1),
-        Compared::Taken(above) => {
-            if above {
-                Standing::Second
-            } else {
-                Standing::First
-            }
-        }
+    match compare(first, second) {
+        Ok(true) => Ok(Side::Second),
+        Ok(false) => Ok(Side::First),
+        Err(why) => Err(WrapRefused { why, index: 1 }),
     }
 }
 
@@ -175,9 +142,9 @@ fn named<'a>(found: Standing, first: &'a [u8], second: &'a [u8]) -> &'a [u8]
     ensures { HandsBack (standing_numbers found) first.entry second.entry result }
 {
     match found {
-        Standing::First => first,
-        Standing::Second => second,
-        Standing::Refused(_, _) => &first[0..0],
+        Ok(Side::First) => first,
+        Ok(Side::Second) => second,
+        Err(_) => &first[0..0],
     }
 }
 
@@ -243,21 +210,23 @@ pub fn choose(file: &[u8]) -> Chosen
 {
     let mut standing = record_at(file, 0, 0);
     if !wrapper_holds(bytes_of(file, standing)) {
-        return Chosen::Refused(WrapRefusal::Wrapper, 0);
+        return Err(WrapRefused {
+            why: WrapRefusal::Wrapper,
+            index: 0,
+        });
     }
     let mut at = standing.length;
     let mut index = 1;
     while at < file.len() {
         let next = record_at(file, index, at);
-        let found = compare(bytes_of(file, standing), bytes_of(file, next));
-        match found {
-            Compared::Refused(why) => return Chosen::Refused(why, index),
-            Compared::Taken(above) => standing = upper(above, standing, next),
+        match compare(bytes_of(file, standing), bytes_of(file, next)) {
+            Ok(above) => standing = upper(above, standing, next),
+            Err(why) => return Err(WrapRefused { why, index }),
         }
         at += next.length;
         index += 1;
     }
-    Chosen::Record(standing)
+    Ok(standing)
 }
 
 // The chosen record as a part of the file, or an empty part.
@@ -265,9 +234,8 @@ pub fn chosen(file: &[u8]) -> &[u8]
     ensures { (result.now ≡ file_bytes file.now)
         × LiesAt file.entry (handed_from (file_answer file.now)) result }
 {
-    let found = choose(file);
-    match found {
-        Chosen::Record(x) => bytes_of(file, x),
-        Chosen::Refused(_, _) => &file[0..0],
+    match choose(file) {
+        Ok(x) => bytes_of(file, x),
+        Err(_) => &file[0..0],
     }
 }

@@ -1,10 +1,9 @@
 -- Laws of `put`: what stands where afterwards, the length, neighbouring parts as one, a part of the list, and the bytes of
--- a number written from the last back.
+-- a number.
 -- Assumes nothing.
-use Prim.Native.Nat.{ℕ, zero, suc, ◌+◌, ◌-◌, ◌/◌, ◌%◌, ◌≤◌, ◌<◌}
+use Prim.Native.Nat.{ℕ, zero, suc, ◌+◌, ◌-◌, ◌≤◌, ◌<◌}
 use native.Mathlib.Decide.{dec_lt}
-use native.Mathlib.Nat.{add-zero, zero-add, add_assoc}
-use native.Mathlib.Numerals.{add-one}
+use native.Mathlib.Nat.{add-zero, zero-add, add_assoc, div-div-eq-div-mul, mod-eq_of_lt}
 use native.Mathlib.Omega.{arith}
 use mathlib.Core.List.{List, [], ◌∷◌, ◌++◌, append_assoc}
 use mathlib.Core.Logic.{◌⊎◌, inl, inr, ◌≢◌}
@@ -14,7 +13,8 @@ use lib.ListN.{get_or-append}
 use lib.Seq.{ext_get_or, get_or-set_other, get_or-set_same, length-sets, sets, sets-eq, take-add, drop-drop, drop_at, length-take-le}
 use borrow.Author.Tests.{le-leb, lt-leb}
 use Rattle.schedule.specs.Fields.{bytes}
-use Rattle.laws.proofs.FieldLaws.{getD_behind, length-bytes}
+use Rattle.laws.proofs.FieldLaws.{getD_behind}
+use Rattle.std.specs.Int.{w16, w32, to_be_bytes}
 use Rattle.fields.specs.Put.{put}
 
 -- ---- what stands where
@@ -200,32 +200,16 @@ put_part k at b l h =
           (simp append_assoc)
     ]
 
--- ---- the bytes of a number
+-- ---- the bytes of a number, as the language's own operation gives them
 
--- the last byte, then those before it
-put_last : (at k v : ℕ) (l : List ℕ) → at + k < length l
-    → put at (bytes k (v / 256)) (set l (at + k) (v % 256)) ≡ put at (bytes (k + 1) v) l
+pub one_byte : (v : ℕ) → v < 256 → v ∷ [] ≡ bytes 1 v
 unfolding bytes
-put_last at k v l h =
-    ap (λ (m : List ℕ). put at front m) (sym (put-sets (at + k) last l (omega arith)))
-    ∙ ap (λ (n : ℕ). put at front (put (at + n) last l)) (sym (length-bytes k (v / 256)))
-    ∙ put_back at front last l (omega (arith, length-append front last, length-bytes k (v / 256)))
-    ∙ ap (λ (n : ℕ). put at (bytes n v) l) (sym (add-one k))
-  where
-    front : List ℕ
-    front = bytes k (v / 256)
+one_byte v h = ap (λ (b : ℕ). b ∷ []) (sym (mod-eq_of_lt h))
 
-    last : List ℕ
-    last = v % 256 ∷ []
-
--- one byte of the j that are left is written
-pub put_step : (at j v : ℕ) (l : List ℕ) {byte : ℕ} → byte ≡ v % 256 → 0 < j → at + j ≤ length l
-    → put at (bytes (j - 1) (v / 256)) (set l (at + (j - 1)) byte) ≡ put at (bytes j v) l
-put_step at j v l b p h =
-    let e : (j - 1) + 1 ≡ j = omega arith in
-    rw b (put_last at (j - 1) v l (omega arith)) ∙ ap (λ (n : ℕ). put at (bytes n v) l) e
-
--- none is left
-pub put-end : (at j v : ℕ) (l : List ℕ) → j ≤ 0 → l ≡ put at (bytes j v) l
+pub two_bytes : (v : ℕ) → to_be_bytes w16 v ≡ bytes 2 v
 unfolding bytes
-put-end at j v l h = let e : j ≡ 0 = omega arith in sym (ap (λ (n : ℕ). put at (bytes n v) l) e ∙ put_nil at l)
+two_bytes v = refl
+
+pub four_bytes : (v : ℕ) → to_be_bytes w32 v ≡ bytes 4 v
+unfolding bytes
+four_bytes v = rw (div-div-eq-div-mul v 256 256, div-div-eq-div-mul v 65536 256)

@@ -1,20 +1,13 @@
--- A field built byte by byte, and its bounds.
+-- A field built byte by byte.
 -- Assumes nothing.
-use Prim.Native.Nat.{ℕ, zero, suc, ◌+◌, ◌-◌, ◌*◌, ◌%◌, ◌^◌, ◌≤◌, ◌<◌}
+use Prim.Native.Nat.{ℕ, zero, suc, ◌+◌, ◌-◌, ◌*◌, ◌≤◌}
 use native.Mathlib.Nat.{add-zero, add_assoc}
 use native.Mathlib.Numerals.{add-one}
 use native.Mathlib.Omega.{arith}
 use mathlib.Core.List.{List}
-use mathlib.Core.Path.{◌≡◌, refl, sym, ap, ◌∙◌}
-use lib.Bits.{bit_or, or_shifted}
+use mathlib.Core.Path.{◌≡◌, refl, sym, ap}
 use lib.ListN.{length, get_or, get_or-eq_default}
-use lib.Pow.{shl_exact}
-use Rattle.schedule.specs.Fields.{field, Bytes}
-use Rattle.laws.proofs.FieldLaws.{field_lt}
-
--- (v << 8) | b
-pub shift_in : (v b : ℕ) → v < 2 ^ 24 → b < 2 ^ 8 → bit_or (v * 2 ^ 8 % 2 ^ 32) b ≡ v * 256 + b
-shift_in v b h l = ap (λ (x : ℕ). bit_or x b) (shl_exact 24 8 32 h (omega arith)) ∙ or_shifted v 8 b l
+use Rattle.schedule.specs.Fields.{field}
 
 -- no byte
 pub field-none : (s : List ℕ) (at : ℕ) → field s at 0 ≡ 0
@@ -39,14 +32,6 @@ field_past s at (suc k) h = omega (arith, field_past s at k h, get_d_past s at k
 -- a field of one byte is the byte
 pub field_one : (s : List ℕ) (at : ℕ) → field s at 1 ≡ get_or s at 0
 field_one s at = omega (arith, field-none s at, field_next s at 0, ap (λ (i : ℕ). get_or s i 0) (add-zero at))
-
--- a field of at most 3 bytes is below 2 to the power 24
-pub field-short : (s : List ℕ) → Bytes s → (at k : ℕ) → k < 4 → field s at k < 16777216
-field-short s h at zero l = omega (arith, field_lt s h at 0)
-field-short s h at (suc zero) l = omega (arith, field_lt s h at 1)
-field-short s h at (suc (suc zero)) l = omega (arith, field_lt s h at 2)
-field-short s h at (suc (suc (suc zero))) l = field_lt s h at 3
-field-short s h at (suc (suc (suc (suc k)))) l = absurd (omega arith)
 
 -- two bytes, put together
 pub field-two : (s : List ℕ) (at : ℕ) → get_or s at 0 * 256 + get_or s (at + 1) 0 ≡ field s at 2

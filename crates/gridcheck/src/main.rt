@@ -2,11 +2,13 @@
 // second `strict`; then `accepted` and the three figures, or `refused` and number, A, B".
 #![tactic(auto)]
 
-ghost use Rattle.std.specs.Prelude.{◌≡◌, ◌≤◌, length, take};
+ghost use Rattle.std.specs.Prelude.{◌≡◌, ◌≤◌, length};
+ghost use Rattle.std.proofs.Common.{rules};
 ghost use Rattle.schedule.specs.Streams.{input_limit};
 ghost use Rattle.schedule.specs.Lines.{gridcheck};
 
-use input::{Input, Kept};
+use programs::{Front, Program};
+use std::io;
 
 // "at most 17,189 bytes of standard input"
 const LIMIT: usize = 17189;
@@ -14,19 +16,10 @@ const LIMIT: usize = 17189;
 // Room for both lines.
 const ROOM: usize = 128;
 
-// The text at the front of an array.
-#[derive(Drop)]
-struct Lines {
-    bytes: [u8; ROOM],
-    length: usize,
-}
-
 // The two lines for the bytes that are taken as all there is.
-fn verdicts(taken: &[u8]) -> Lines
+fn verdicts(taken: &[u8]) -> Front<ROOM>
     requires { length taken.now ≤ input_limit }
-    ensures fits { result.length ≤ length result.bytes }
-    ensures text { (result.length ≡ length (gridcheck taken.now))
-        × (take result.length result.bytes ≡ gridcheck taken.now) }
+    ensures { result ≡ gridcheck taken.now }
 {
     let model = streams::first_record(taken);
     let plan = streams::second_record(taken);
@@ -34,32 +27,29 @@ fn verdicts(taken: &[u8]) -> Lines
     let strict = checks::check_strict(model, plan);
     let mut bytes = [0u8; ROOM];
     let length = text::check_lines(&mut bytes, plain, strict);
-    Lines { bytes, length }
+    Front::new(bytes, length)
 }
 
-// The two lines for the first bytes of the input, as many as were read. The array that is read into has the limit's length.
-fn answer(input: &[u8; LIMIT], read: usize) -> Lines
-    ensures limit { length input.now ≡ input_limit }
-    ensures fits { result.length ≤ length result.bytes }
-    ensures text { (result.length ≡ length (gridcheck (take read input.now)))
-        × (take result.length result.bytes ≡ gridcheck (take read input.now)) }
-{
-    let all = &input[..];
-    verdicts(streams::front(all, read))
+struct Gridcheck;
+
+impl Program<LIMIT, ROOM> for Gridcheck {
+    ghost printed = { gridcheck };
+
+    // The two lines for what was read. The array that is read into has the limit's length.
+    fn answer(input: &Front<LIMIT>) -> Front<ROOM>
+        ensures limit { LIMIT ≡ input_limit }
+        ensures text { result ≡ gridcheck input.now }
+    {
+        verdicts(input.as_bytes())
+    }
+
+    ghost room = { Prim.search rules };
 }
 
 // Where a read fails nothing is printed on standard output. What failed, and why, goes to standard error, and the status is 0.
 fn main(rt: HostRuntime) {
-    let mut bytes = [0u8; LIMIT];
-    let mut stdin = Kept::new(rt.stdin());
-    let Input::Bytes(n) = input::fill(&mut stdin, &mut bytes) else {
-        if let Some(e) = stdin.error() {
-            let _ = eprintln!(rt; "gridcheck: standard input: {e}");
-        }
-        return;
-    };
-    let lines = answer(&bytes, n);
-    if let Err(e) = rt.write_all(&lines.bytes[..lines.length]) {
-        let _ = eprintln!(rt; "gridcheck: standard output: {e}");
+    let done = programs::run::<Gridcheck, _, _, LIMIT, ROOM>(&mut rt.stdin(), &mut io::writer(&rt));
+    if let Err(e) = done {
+        let _ = eprintln!(rt; "gridcheck: {e}");
     }
 }

@@ -3,11 +3,13 @@
 // A, B".
 #![tactic(auto)]
 
-ghost use Rattle.std.specs.Prelude.{◌≡◌, ◌≤◌, length, take};
+ghost use Rattle.std.specs.Prelude.{◌≡◌, ◌≤◌, length};
+ghost use Rattle.std.proofs.Common.{rules};
 ghost use Rattle.schedule.specs.Streams.{input_limit};
 ghost use Rattle.schedule.specs.Lines.{gridrun};
 
-use input::{Input, Kept};
+use programs::{Front, Program};
+use std::io;
 
 // "at most 17,189 bytes of standard input"
 const LIMIT: usize = 17189;
@@ -18,19 +20,10 @@ const PLAN: usize = 16553;
 // Room for the lines of 4096 ticks and the last line.
 const ROOM: usize = 60000;
 
-// The text at the front of an array.
-#[derive(Drop)]
-struct Lines {
-    bytes: [u8; ROOM],
-    length: usize,
-}
-
 // The lines for the bytes that are taken as all there is.
-fn page(taken: &[u8]) -> Lines
+fn page(taken: &[u8]) -> Front<ROOM>
     requires { length taken.now ≤ input_limit }
-    ensures fits { result.length ≤ length result.bytes }
-    ensures text { (result.length ≡ length (gridrun taken.now))
-        × (take result.length result.bytes ≡ gridrun taken.now) }
+    ensures { result ≡ gridrun taken.now }
 {
     let model = streams::first_record(taken);
     let choice = streams::second_record(taken);
@@ -38,32 +31,29 @@ fn page(taken: &[u8]) -> Lines
     let verdict = run::run(model, choice, &mut plan);
     let mut bytes = [0u8; ROOM];
     let length = text::run_lines(&mut bytes, verdict, &plan);
-    Lines { bytes, length }
+    Front::new(bytes, length)
 }
 
-// The lines for the first bytes of the input, as many as were read. The array that is read into has the limit's length.
-fn answer(input: &[u8; LIMIT], read: usize) -> Lines
-    ensures limit { length input.now ≡ input_limit }
-    ensures fits { result.length ≤ length result.bytes }
-    ensures text { (result.length ≡ length (gridrun (take read input.now)))
-        × (take result.length result.bytes ≡ gridrun (take read input.now)) }
-{
-    let all = &input[..];
-    page(streams::front(all, read))
+struct Gridrun;
+
+impl Program<LIMIT, ROOM> for Gridrun {
+    ghost printed = { gridrun };
+
+    // The lines for what was read. The array that is read into has the limit's length.
+    fn answer(input: &Front<LIMIT>) -> Front<ROOM>
+        ensures limit { LIMIT ≡ input_limit }
+        ensures text { result ≡ gridrun input.now }
+    {
+        page(input.as_bytes())
+    }
+
+    ghost room = { Prim.search rules };
 }
 
 // Where a read fails nothing is printed on standard output. What failed, and why, goes to standard error, and the status is 0.
 fn main(rt: HostRuntime) {
-    let mut bytes = [0u8; LIMIT];
-    let mut stdin = Kept::new(rt.stdin());
-    let Input::Bytes(n) = input::fill(&mut stdin, &mut bytes) else {
-        if let Some(e) = stdin.error() {
-            let _ = eprintln!(rt; "gridrun: standard input: {e}");
-        }
-        return;
-    };
-    let lines = answer(&bytes, n);
-    if let Err(e) = rt.write_all(&lines.bytes[..lines.length]) {
-        let _ = eprintln!(rt; "gridrun: standard output: {e}");
+    let done = programs::run::<Gridrun, _, _, LIMIT, ROOM>(&mut rt.stdin(), &mut io::writer(&rt));
+    if let Err(e) = done {
+        let _ = eprintln!(rt; "gridrun: {e}");
     }
 }

@@ -1,19 +1,13 @@
--- Bytes stored one by one; what is stored behind others leaves the bytes behind it alone; and a read behind others takes from
--- the reader what comes to stand behind them. Assumes nothing.
-use Rattle.std.proofs.Common.{ℕ, ◌+◌, ◌-◌, ◌≤◌, ◌<◌, ◌≡◌, ◌++◌, List, length, get_or, drop, take, sym, ap, subst, ◌∙◌, arith, add-one}
-use Rattle.std.specs.Prelude.{Option}
-use Rattle.std.proofs.Math.ListN.{set}
-use Rattle.std.proofs.Math.Seq.{paste, paste-suc, take-add}
+-- What is stored behind others leaves the bytes behind it alone; and a read behind others takes from the reader what comes to
+-- stand behind them. Assumes nothing.
+use Rattle.std.proofs.Common.{ℕ, ◌+◌, ◌-◌, ◌≤◌, ◌≡◌, ◌++◌, List, length, drop, take, sym, ap, subst, ◌∙◌, arith}
+use Rattle.std.specs.Prelude.{Option, Result}
+use Rattle.std.proofs.Math.Seq.{take-add}
 use Rattle.std.proofs.lemmas.List.{drop-drop}
 use Rattle.std.proofs.KnownBytes.{Consumes-trans}
 use Rattle.std.specs.Io.KnownBytes.{Consumes}
-use Rattle.input.specs.declared.Input.{Input}
+use Rattle.input.specs.declared.FillError.{FillError}
 use Rattle.input.specs.Filled.{came, Filled, FilledFrom}
-
-pub stored_next : (old chunk buf : List ℕ) (at i : ℕ) → buf ≡ paste old at chunk i → at + i < length old
-    → i < length chunk → set buf (at + i) (get_or chunk i 0) ≡ paste old at chunk (i + 1)
-stored_next old chunk buf at i e h l =
-    rw add-one (ap (λ (b : List ℕ). set b (at + i) (get_or chunk i 0)) e ∙ paste-suc old at chunk i 0 h l)
 
 -- what is the same from a position on is the same from a later one on
 drop-later : (a b : List ℕ) (k n : ℕ) → k ≤ n → drop k a ≡ drop k b → drop n a ≡ drop n b
@@ -26,7 +20,7 @@ drop-later a b k n h e =
     ∙ ap (λ (i : ℕ). drop i b) sum
 
 -- a read behind others leaves the bytes behind all of them as they were at first
-pub filled-after : (done : ℕ) (r : Input) (old mid new : List ℕ) → length mid ≡ length old → drop done mid ≡ drop done old
+pub filled-after : (done : ℕ) (r : Result ℕ FillError) (old mid new : List ℕ) → length mid ≡ length old → drop done mid ≡ drop done old
     → FilledFrom done r mid new → Filled r old new
 filled-after done r old mid new same e h = (
   omega (arith, h.filled.0),

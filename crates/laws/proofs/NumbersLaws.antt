@@ -6,6 +6,7 @@ use mathlib.Core.Bool.{cond}
 use mathlib.Core.List.{List, [], ◌∷◌, ◌++◌, map}
 use mathlib.Core.Path.{◌≡◌, refl, sym, ap, ◌∙◌}
 use lib.Dec.{eqb}
+use Rattle.std.specs.Prelude.{Option, Some, None, Ok, Err}
 use Rattle.schedule.specs.declared.Place.{Place}
 use Rattle.schedule.specs.declared.RowRule.{RowRule}
 use Rattle.schedule.specs.declared.FormRefusal.{FormRefusal}
@@ -14,12 +15,9 @@ use Rattle.schedule.specs.declared.TickRule.{TickRule}
 use Rattle.schedule.specs.declared.RuleRefusal.{RuleRefusal}
 use Rattle.schedule.specs.declared.RunRefusal.{RunRefusal}
 use Rattle.schedule.specs.declared.Refusal.{Refusal}
-use Rattle.schedule.specs.declared.Verdict.{Verdict}
-use Rattle.schedule.specs.declared.RunVerdict.{RunVerdict}
-use Rattle.schedule.specs.declared.WordAt.{WordAt}
 use Rattle.schedule.specs.declared.WrapRefusal.{WrapRefusal}
-use Rattle.schedule.specs.declared.Standing.{Standing}
-use Rattle.schedule.specs.declared.Chosen.{Chosen}
+use Rattle.schedule.specs.declared.WrapRefused.{WrapRefused}
+use Rattle.schedule.specs.declared.Side.{Side}
 use Rattle.schedule.specs.Rule
 use Rattle.schedule.specs.Model.{row_order}
 use Rattle.schedule.specs.Checks.{strict_order}
@@ -28,7 +26,8 @@ use Rattle.schedule.specs.Answers.{Answer, accepted, refused}
 use Rattle.schedule.specs.Streams.{WordOrPast, word, past}
 use Rattle.schedule.specs.Exchange
 use Rattle.schedule.specs.Numbers.{form_number, rule_number, run_number, refusal_numbers, verdict_numbers}
-use Rattle.schedule.specs.Numbers.{run_numbers, word_numbers, wrap_number, standing_numbers, chosen_numbers}
+use Rattle.schedule.specs.Numbers.{Verdict, RunVerdict, Standing, Chosen}
+use Rattle.schedule.specs.Numbers.{run_numbers, word_numbers, wrap_number, wrap_refusal, standing_numbers, chosen_numbers}
 use Rattle.schedule.specs.Retired.{NoCaseRetired}
 
 -- a map that another undoes takes no two things to one
@@ -116,15 +115,15 @@ refusal_undone (Refusal.Rule why at) = rule_undone why at
 refusal_undone (Refusal.Run why at) = run_undone why at
 
 abbrev verdict_of : Answer Answers.Figures → Verdict
-verdict_of (accepted f) = Verdict.Accepted (record { usage = f.usage; capacity = f.capacity; makespan = f.makespan })
-verdict_of (refused x) = Verdict.Refused (refusal_of x)
+verdict_of (accepted f) = Ok (record { usage = f.usage; capacity = f.capacity; makespan = f.makespan })
+verdict_of (refused x) = Err (refusal_of x)
 
 verdict_undone : (v : Verdict) → verdict_of (verdict_numbers v) ≡ v
-verdict_undone (Verdict.Accepted f) = refl
-verdict_undone (Verdict.Refused x) = ap Verdict.Refused (refusal_undone x)
+verdict_undone (Ok f) = refl
+verdict_undone (Err x) = ap Err (refusal_undone x)
 
 abbrev run_verdict_of : Answer Answers.Written → RunVerdict
-run_verdict_of (accepted w) = RunVerdict.Accepted (record {
+run_verdict_of (accepted w) = Ok (record {
   length = w.length;
   figures = record {
     usage = w.figures.usage;
@@ -132,19 +131,19 @@ run_verdict_of (accepted w) = RunVerdict.Accepted (record {
     makespan = w.figures.makespan;
   };
 })
-run_verdict_of (refused x) = RunVerdict.Refused (refusal_of x)
+run_verdict_of (refused x) = Err (refusal_of x)
 
 run-verdict_undone : (v : RunVerdict) → run_verdict_of (run_numbers v) ≡ v
-run-verdict_undone (RunVerdict.Accepted w) = refl
-run-verdict_undone (RunVerdict.Refused x) = ap RunVerdict.Refused (refusal_undone x)
+run-verdict_undone (Ok w) = refl
+run-verdict_undone (Err x) = ap Err (refusal_undone x)
 
-abbrev word_at_of : WordOrPast → WordAt
-word_at_of (word w) = WordAt.Word w
-word_at_of past = WordAt.Past
+abbrev word_at_of : WordOrPast → Option ℕ
+word_at_of (word w) = Some w
+word_at_of past = None
 
-word_undone : (w : WordAt) → word_at_of (word_numbers w) ≡ w
-word_undone (WordAt.Word w) = refl
-word_undone WordAt.Past = refl
+word_undone : (w : Option ℕ) → word_at_of (word_numbers w) ≡ w
+word_undone (Some w) = refl
+word_undone None = refl
 
 abbrev wrap_of : ℕ → WrapRefusal
 wrap_of number = cond (eqb number 54) WrapRefusal.Wrapper (cond (eqb number 55) WrapRefusal.Series WrapRefusal.Copy)
@@ -154,22 +153,28 @@ wrap_undone WrapRefusal.Wrapper = refl
 wrap_undone WrapRefusal.Series = refl
 wrap_undone WrapRefusal.Copy = refl
 
+abbrev wrap_refused_of : Rule.Refusal → WrapRefused
+wrap_refused_of x = record { why = wrap_of x.number; index = x.A }
+
+wrap-refused_undone : (x : WrapRefused) → wrap_refused_of (wrap_refusal x) ≡ x
+wrap-refused_undone x = ap (λ (w : WrapRefusal). record { why = w; index = x.index }) (wrap_undone x.why)
+
 abbrev standing_of : Answer ℕ → Standing
-standing_of (accepted r) = cond (eqb r 0) Standing.First Standing.Second
-standing_of (refused x) = Standing.Refused (wrap_of x.number) x.A
+standing_of (accepted r) = Ok (cond (eqb r 0) Side.First Side.Second)
+standing_of (refused x) = Err (wrap_refused_of x)
 
 standing_undone : (v : Standing) → standing_of (standing_numbers v) ≡ v
-standing_undone Standing.First = refl
-standing_undone Standing.Second = refl
-standing_undone (Standing.Refused why k) = ap (λ (w : WrapRefusal). Standing.Refused w k) (wrap_undone why)
+standing_undone (Ok Side.First) = refl
+standing_undone (Ok Side.Second) = refl
+standing_undone (Err x) = ap Err (wrap-refused_undone x)
 
 abbrev chosen_of : Answer Exchange.Part → Chosen
-chosen_of (accepted x) = Chosen.Record (record { index = x.index; offset = x.offset; length = x.length })
-chosen_of (refused x) = Chosen.Refused (wrap_of x.number) x.A
+chosen_of (accepted x) = Ok (record { index = x.index; offset = x.offset; length = x.length })
+chosen_of (refused x) = Err (wrap_refused_of x)
 
 chosen_undone : (v : Chosen) → chosen_of (chosen_numbers v) ≡ v
-chosen_undone (Chosen.Record x) = refl
-chosen_undone (Chosen.Refused why k) = ap (λ (w : WrapRefusal). Chosen.Refused w k) (wrap_undone why)
+chosen_undone (Ok x) = refl
+chosen_undone (Err x) = ap Err (wrap-refused_undone x)
 
 -- equal numbers and values mean equal answers
 pub refusal_injective : (x y : Refusal) → refusal_numbers x ≡ refusal_numbers y → x ≡ y
@@ -218,7 +223,7 @@ verdict_injective = undone_injective verdict_numbers verdict_of verdict_undone
 pub run-verdict_injective : (x y : RunVerdict) → run_numbers x ≡ run_numbers y → x ≡ y
 run-verdict_injective = undone_injective run_numbers run_verdict_of run-verdict_undone
 
-pub word_injective : (x y : WordAt) → word_numbers x ≡ word_numbers y → x ≡ y
+pub word_injective : (x y : Option ℕ) → word_numbers x ≡ word_numbers y → x ≡ y
 word_injective = undone_injective word_numbers word_at_of word_undone
 
 pub standing_injective : (x y : Standing) → standing_numbers x ≡ standing_numbers y → x ≡ y

@@ -2,12 +2,13 @@
 -- Assumes nothing.
 use Prim.Native.Nat.{ℕ, ◌≤◌, ◌<◌}
 use native.Mathlib.Omega.{arith}
-use mathlib.Core.Bool.{not}
+use mathlib.Core.Bool.{Bool, true, not}
 use mathlib.Core.List.{List, []}
 use mathlib.Core.Option.{some, none}
-use mathlib.Core.Path.{◌≡◌, refl, ap, ap₂, ◌∙◌}
-use lib.Dec.{eqb}
+use mathlib.Core.Path.{◌≡◌, refl, sym, subst, ap, ap₂, ◌∙◌}
+use lib.Dec.{T, eqb}
 use lib.ListN.{get_or}
+use Rattle.std.specs.Prelude.{None, Some}
 use Rattle.schedule.specs.Bounded.{lowest}
 use Rattle.schedule.specs.Rule.{Rule, break, first_break}
 use Rattle.schedule.specs.Model.{Model}
@@ -15,15 +16,22 @@ use Rattle.schedule.specs.Choice.{Choice, choice_timing}
 use Rattle.schedule.specs.Machine.{machine_end}
 use Rattle.schedule.specs.Timing.{on_time, in_time, deadline_rule}
 use Rattle.schedule.specs.Answers.{owed_rule, run_rules}
-use Rattle.laws.proofs.Lowest.{Lowest, lowest_ext, is_lowest}
+use Rattle.laws.proofs.Lowest.{Lowest, found_here, found_none, lowest_ext, is_lowest}
 use Rattle.laws.proofs.RowLaws.{break_at, break-none_at}
 use Rattle.laws.proofs.FirstBreak.{rule_stops, rule_goes_on}
 use Rattle.tables.specs.Columns.{TableOf}
-use Rattle.machine.specs.Ending.{Stopped, in_time_from}
+use Rattle.machine.specs.Ending.{First, Stopped, in_time_from}
 
 none_left : first_break [] ≡ none
 unfolding first_break
 none_left = refl
+
+-- what a search finds, and what it says where it finds nothing
+pub first_some : (n : ℕ) (p : ℕ → Bool) (a : ℕ) → First n p (Some a) → a ≡ lowest n p
+first_some n p a h = found_here n p a true h.0 (λ j l t. subst T (h.2 j l) t) (sym h.1) tt
+
+pub first_none : (n : ℕ) (p : ℕ → Bool) → First n p None → n ≡ lowest n p
+first_none n p h = found_none n p n (omega arith) (omega arith) (λ j l t. subst T (h j l) t)
 
 module _ (m : Model) (q : Choice) (owed ends : List ℕ) (stopped : Stopped m q owed ends) (n : ℕ) (en : n ≡ m.activities) where
   -- rule 43

@@ -26,7 +26,8 @@ use Rattle.laws.proofs.WordLaws.{bit-bit_and, bit_not, bit-zero, zero_bits}
 use Rattle.bits.proofs.Apart.{lowest_lt, lowest_set, gone, kept, still_within, none-taken}
 use Rattle.schedule.specs.Bounded.{without_bit}
 use Rattle.machine.specs.Masks.{covered, ended_from, ended_mask, ready_from, walked_from, ready_mask, tick_word}
-use Rattle.machine.specs.Masks.{delays, Tabled, Keeps, Stepped}
+use Rattle.machine.specs.declared.inputs.Tables.{Tables}
+use Rattle.machine.specs.Masks.{Tabled, Keeps, Stepped}
 use Rattle.tables.specs.Columns.{TableOf, among_activities}
 use Rattle.tables.proofs.TableLaws.{among_lt, bit-among}
 use Rattle.machine.proofs.WalkLaws.{walk_is}
@@ -95,7 +96,7 @@ covered-among m q p few =
     low : (b : ℕ) → T (ltb b m.activities && q b) → b < m.activities
     low b h = (T_ltb b m.activities).0 ((T_and (ltb b m.activities) (q b)).0 h).0
 
-module _ (m : Model) (release : ℕ → ℕ) (tables : List (List ℕ)) (tabled : Tabled m release tables) where
+module _ (m : Model) (release : ℕ → ℕ) (tables : Tables) (tabled : Tabled m release tables) where
   -- the activities that have ended with their delay are those of the definition
   ended_is : (s : State) (owed ends waits : List ℕ) (delay : ℕ → ℕ) (t : ℕ) → Keeps m s owed ends → TableOf m waits delay
       → ended_mask m.activities owed ends waits t ≡ word_of m.activities (λ b. ended_by s b (delay b) t)
@@ -107,7 +108,7 @@ module _ (m : Model) (release : ℕ → ℕ) (tables : List (List ℕ)) (tabled 
 
   ready_is : (s : State) (owed ends none : List ℕ) (t : ℕ) → Keeps m s owed ends → TableOf m none (λ _. 0)
       → (a : ℕ) → a < m.activities
-      → ready_from tables owed (ended_mask m.activities owed ends (delays tables) t)
+      → ready_from tables owed (ended_mask m.activities owed ends tables.delays t)
       (ended_mask m.activities owed ends none t) t a
       ≡ ready m release t s a
   unfolding ready_from ready
@@ -116,7 +117,7 @@ module _ (m : Model) (release : ℕ → ℕ) (tables : List (List ℕ)) (tabled 
       (ap₂ ◌&&◌ (ap (λ (x : ℕ). leb x t) (tabled.release_ticks a l))
       (ap₂ ◌&&◌
       (ap₂ covered (tabled.temporal_masks a l)
-      (ended_is s owed ends (delays tables) m.delay t keeps tabled.delay_ticks)
+      (ended_is s owed ends tables.delays m.delay t keeps tabled.delay_ticks)
       ∙ covered-among m (λ b. temporally m b a) (λ b. ended_by s b (m.delay b) t) tabled.few)
       (ap₂ covered (tabled.data_masks a l) (ended_is s owed ends none (λ _. 0) t keeps held)
       ∙ covered-among m (λ b. by_data m b a) (λ b. ended_by s b 0 t) tabled.few)))
@@ -124,18 +125,21 @@ module _ (m : Model) (release : ℕ → ℕ) (tables : List (List ℕ)) (tabled 
 
   -- the ready mask holds the ready
   pub ready_mask_is : (s : State) (owed ends none : List ℕ) (t : ℕ) → Keeps m s owed ends → TableOf m none (λ _. 0)
-      → ready_mask m.activities tables none owed ends t ≡ word_of m.activities (ready m release t s)
+      → ready_mask tables none owed ends t ≡ word_of m.activities (ready m release t s)
   unfolding ready_mask
   ready_mask_is s owed ends none t keeps held =
-      wordOf_ext m.activities _ _ (ready_is s owed ends none t keeps held)
+      ap (λ (n : ℕ). word_of n (ready_from tables owed (ended_mask n owed ends tables.delays t) (ended_mask n owed ends none t) t))
+      tabled.sizes.0
+      ∙ wordOf_ext m.activities _ _ (ready_is s owed ends none t keeps held)
 
   -- a tick on whole words is the machine's
   pub tick_is : (s : State) (owed ends : List ℕ) (t : ℕ) → Keeps m s owed ends
-      → tick_word m.activities m.cores tables owed ends t ≡ word_at m release t s
+      → tick_word tables owed ends t ≡ word_at m release t s
   unfolding tick_word word_at selected
   tick_is s owed ends t keeps =
-      ap (λ (w : ℕ). (walked_from m.cores w tables m.activities).word)
+      ap₂ (λ (w k : ℕ). (walked_from w tables k).word)
       (ready_mask_is s owed ends (replicate 32 0) t keeps (λ b l. get_or-replicate 32 b 0 0 (omega (arith, tabled.few))))
+      tabled.sizes.0
       ∙ walk_is m release tables tabled (ready m release t s)
 
 -- ---- the tables from tick to tick

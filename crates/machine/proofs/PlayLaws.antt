@@ -29,6 +29,7 @@ use Rattle.fields.specs.Put.{put}
 use Rattle.fields.proofs.PutLaws.{put_nil, put_next, put_out, length-put}
 use Rattle.tables.specs.Columns.{by_activity}
 use Rattle.tables.proofs.TableLaws.{by_table, by_beyond, length_by, table_by}
+use Rattle.machine.specs.declared.inputs.Tables.{Tables}
 use Rattle.machine.specs.Masks.{tick_word, Tabled, Keeps, Stepped}
 use Rattle.machine.specs.Ending.{Stopped}
 use Rattle.machine.specs.declared.Judged.{Judged}
@@ -103,14 +104,14 @@ running_start m q grid owed ends few o e = record {
     no_end a = ap (λ (x : List ℕ). get_or x a 0) e ∙ zeros_at 32 a
 
 module _ (m : Model) (q : Choice) (grid₀ grid owed ends : List ℕ) (t : ℕ) (h : Running m q grid₀ grid owed ends t) where
-  pub running_next : (tables : List (List ℕ)) (n cores word : ℕ) (grid' owed' ends' : List ℕ)
-      → Tabled m q.release tables → n ≡ m.activities → cores ≡ m.cores → t < m.horizon
-      → word ≡ tick_word n cores tables owed ends t
+  pub running_next : (tables : Tables) (word : ℕ) (grid' owed' ends' : List ℕ)
+      → Tabled m q.release tables → t < m.horizon
+      → word ≡ tick_word tables owed ends t
       → Stepped 32 word t owed ends owed' ends'
       → grid' ≡ put (tick_at t) (bytes 4 word) grid
       → Running m q grid₀ grid' owed' ends' (t + 1)
   unfolding machine_word
-  running_next tables n cores word grid' owed' ends' tabled en ec l ew stepped eg =
+  running_next tables word grid' owed' ends' tabled l ew stepped eg =
       record {
         so_far = omega arith;
         sized = stepped.sized;
@@ -124,10 +125,7 @@ module _ (m : Model) (q : Choice) (grid₀ grid owed ends : List ℕ) (t : ℕ) 
       }
     where
       right : word ≡ machine_word m q.release q.duration t
-      right =
-          ew
-          ∙ ap₂ (λ (k c : ℕ). tick_word k c tables owed ends t) en ec
-          ∙ tick_is m q.release tables tabled (state_at m q.release q.duration t) owed ends t h.keeps
+      right = ew ∙ tick_is m q.release tables tabled (state_at m q.release q.duration t) owed ends t h.keeps
 
       still : (a : ℕ) → m.activities ≤ a → (get_or owed' a 0 ≡ 0) × (get_or ends' a 0 ≡ 0)
       still a k = elim (dec_lt a 32) [

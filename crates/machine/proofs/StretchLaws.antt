@@ -21,69 +21,70 @@ use Rattle.laws.proofs.WordLaws.{bit-zero}
 use Rattle.bits.proofs.Apart.{kept}
 use Rattle.ticks.specs.declared.Kept.{Kept}
 use Rattle.ticks.proofs.KeptLaws.{quiet_start, quiet_next, quiet_sooner, stands_unknown}
-use Rattle.machine.specs.Masks.{releases, delays, temporal, on_data, covered, ended_from, ended_mask, ready_from}
+use Rattle.machine.specs.declared.inputs.Tables.{Tables}
+use Rattle.machine.specs.Masks.{covered, ended_from, ended_mask, ready_from}
 use Rattle.machine.specs.Masks.{walked_from, ready_mask, tick_word, Stepped}
 use Rattle.machine.proofs.MaskLaws.{nothing_less}
 use Rattle.machine.specs.Stretches.{Unchanged, Busy, Lasts}
 
-module _ (n c : ℕ) (tables : List (List ℕ)) where
+module _ (tables : Tables) where
   -- a tick's word depends on the tables and the tick by these tests alone
   tick_ext : (owed ends owed' ends' : List ℕ) (t t' : ℕ)
-      → ((a : ℕ) → a < n → ltb 0 (get_or owed a 0) ≡ ltb 0 (get_or owed' a 0))
-      → ((a : ℕ) → a < n → leb (get_or (releases tables) a 0) t ≡ leb (get_or (releases tables) a 0) t')
-      → ((b : ℕ) → b < n → ended_from owed ends (delays tables) t b ≡ ended_from owed' ends' (delays tables) t' b)
-      → ((b : ℕ) → b < n → ended_from owed ends (replicate 32 0) t b ≡ ended_from owed' ends' (replicate 32 0) t' b)
-      → tick_word n c tables owed ends t
-      ≡ tick_word n c tables owed' ends' t'
+      → ((a : ℕ) → a < tables.activities → ltb 0 (get_or owed a 0) ≡ ltb 0 (get_or owed' a 0))
+      → ((a : ℕ) → a < tables.activities → leb (get_or tables.releases a 0) t ≡ leb (get_or tables.releases a 0) t')
+      → ((b : ℕ) → b < tables.activities → ended_from owed ends tables.delays t b ≡ ended_from owed' ends' tables.delays t' b)
+      → ((b : ℕ) → b < tables.activities → ended_from owed ends (replicate 32 0) t b ≡ ended_from owed' ends' (replicate 32 0) t' b)
+      → tick_word tables owed ends t
+      ≡ tick_word tables owed' ends' t'
   unfolding tick_word ready_mask ended_mask ready_from
   tick_ext owed ends owed' ends' t t' owes released past over =
-      ap (λ (w : ℕ). (walked_from c w tables n).word)
-      (wordOf_ext n _ _ (λ a l.
+      ap (λ (w : ℕ). (walked_from w tables tables.activities).word)
+      (wordOf_ext tables.activities _ _ (λ a l.
       ap₂ (λ (x : Bool) (y : Bool). x && y) (owes a l)
       (ap₂ (λ (x : Bool) (y : Bool). x && y) (released a l)
-      (ap₂ (λ (x y : ℕ). covered' a x y) (wordOf_ext n _ _ past) (wordOf_ext n _ _ over)))))
+      (ap₂ (λ (x y : ℕ). covered' a x y) (wordOf_ext tables.activities _ _ past) (wordOf_ext tables.activities _ _ over)))))
     where
       covered' : ℕ → ℕ → ℕ → Bool
-      covered' a x y = covered (get_or (temporal tables) a 0) x && covered (get_or (on_data tables) a 0) y
+      covered' a x y = covered (get_or tables.temporal a 0) x && covered (get_or tables.by_data a 0) y
 
   -- nothing passes from t to v
-  pub tick_quiet : (owed ends : List ℕ) (t u v : ℕ) → Unchanged n tables ends t u → t ≤ v → v < u
-      → tick_word n c tables owed ends v
-      ≡ tick_word n c tables owed ends t
+  pub tick_quiet : (owed ends : List ℕ) (t u v : ℕ) → Unchanged tables.activities tables ends t u → t ≤ v → v < u
+      → tick_word tables owed ends v
+      ≡ tick_word tables owed ends t
   unfolding ended_from
   tick_quiet owed ends t u v q h l =
       tick_ext owed ends owed ends v t (λ a la. refl)
-      (λ a la. between_leb (get_or (releases tables) a 0) t v h (λ k. omega (arith, q.released a la k)))
+      (λ a la. between_leb (get_or tables.releases a 0) t v h (λ k. omega (arith, q.released a la k)))
       (λ b lb. ap (λ (x : Bool). eqb (get_or owed b 0) 0 && x)
-      (between_leb (get_or ends b 0 + get_or (delays tables) b 0) t v h (λ k. omega (arith, q.delayed b lb k))))
+      (between_leb (get_or ends b 0 + get_or tables.delays b 0) t v h (λ k. omega (arith, q.delayed b lb k))))
       (λ b lb. ap (λ (x : Bool). eqb (get_or owed b 0) 0 && x)
       (between_leb (get_or ends b 0 + get_or (replicate 32 0) b 0) t v h
       (λ k. omega (arith, zeros_at 32 b, q.ended b lb (omega (arith, k, zeros_at 32 b))))))
 
   -- no activity of the word ends at tick t
-  tick_stepped : (word t u v : ℕ) (owed ends owed' ends' : List ℕ) → n ≤ 32 → Busy word owed t u → t + 1 < u
+  tick_stepped : (word t u v : ℕ) (owed ends owed' ends' : List ℕ) → Busy word owed t u → t + 1 < u
       → Stepped 32 word t owed ends owed' ends'
-      → tick_word n c tables owed' ends' v
-      ≡ tick_word n c tables owed ends v
+      → tick_word tables owed' ends' v
+      ≡ tick_word tables owed ends v
   unfolding ended_from
-  tick_stepped word t u v owed ends owed' ends' few busy l stepped =
+  tick_stepped word t u v owed ends owed' ends' busy l stepped =
       tick_ext owed' ends' owed ends v v (λ a la. (kept a la).0) (λ a la. refl)
-      (λ b lb. ended (delays tables) b lb) (λ b lb. ended (replicate 32 0) b lb)
+      (λ b lb. ended tables.delays b lb) (λ b lb. ended (replicate 32 0) b lb)
     where
-      kept : (a : ℕ) → a < n → (ltb 0 (get_or owed' a 0) ≡ ltb 0 (get_or owed a 0))
+      kept : (a : ℕ) → a < tables.activities → (ltb 0 (get_or owed' a 0) ≡ ltb 0 (get_or owed a 0))
           × (eqb (get_or owed' a 0) 0 ≡ eqb (get_or owed a 0) 0) × (get_or ends' a 0 ≡ get_or ends a 0)
       kept a la = ⊎_elim active idle (dec_t (bit word a))
         where
           less : get_or owed' a 0 ≡ get_or owed a 0 - cond (bit word a) 1 0
-          less = stepped.owed_less a (omega arith)
+          less = stepped.owed_less a (omega (arith, tables.few))
 
           next : get_or ends' a 0 ≡ cond (bit word a && eqb (get_or owed a 0) 1) (t + 1) (get_or ends a 0)
-          next = stepped.ends_next a (omega arith)
+          next = stepped.ends_next a (omega (arith, tables.few))
 
           active : T (bit word a) → (ltb 0 (get_or owed' a 0) ≡ ltb 0 (get_or owed a 0))
               × (eqb (get_or owed' a 0) 0 ≡ eqb (get_or owed a 0) 0) × (get_or ends' a 0 ≡ get_or ends a 0)
           active h =
-              let two : u ≤ t + get_or owed a 0 = busy a (omega arith) h in
+              let two : u ≤ t + get_or owed a 0 = busy a (omega (arith, tables.few)) h in
               let one : get_or owed' a 0 ≡ get_or owed a 0 - 1 = less
               ∙ ap (λ (x : Bool). get_or owed a 0 - cond x 1 0) (T_true (bit word a) h) in (
                 lt-ltb 0 (get_or owed' a 0) (omega (arith, one, two)) ∙ sym (lt-ltb 0 (get_or owed a 0) (omega (arith, two))),
@@ -102,32 +103,32 @@ module _ (n c : ℕ) (tables : List (List ℕ)) where
                 next ∙ ap (λ (x : Bool). cond (x && eqb (get_or owed a 0) 1) (t + 1) (get_or ends a 0)) (T_false (bit word a) h),
               )
 
-      ended : (waits : List ℕ) (b : ℕ) → b < n → ended_from owed' ends' waits v b ≡ ended_from owed ends waits v b
+      ended : (waits : List ℕ) (b : ℕ) → b < tables.activities → ended_from owed' ends' waits v b ≡ ended_from owed ends waits v b
       ended waits b lb =
           ap₂ (λ (x : Bool) (y : ℕ). x && leb (y + get_or waits b 0) v) (kept b lb).1 (kept b lb).2
 
   pub lasts_unknown : (owed ends : List ℕ) (known : Kept) (t : ℕ) → known ≡ record { word = 0; until = 0 }
-      → Lasts n c tables owed ends known t
+      → Lasts tables owed ends known t
   lasts_unknown owed ends known t e =
       let z : known.until ≡ 0 = ap (λ (y : Kept). y.until) e in
       record { same = stands_unknown _ known t e; busy = λ a l h. omega (arith, z) }
 
   -- a word of tick t, kept where nothing passes and all of it owe something
   pub lasts_fresh : (owed ends : List ℕ) (known : Kept) (t change : ℕ)
-      → known.word ≡ tick_word n c tables owed ends t
-      → Unchanged n tables ends t change → known.until ≤ change → Busy known.word owed t known.until
-      → Lasts n c tables owed ends known t
+      → known.word ≡ tick_word tables owed ends t
+      → Unchanged tables.activities tables ends t change → known.until ≤ change → Busy known.word owed t known.until
+      → Lasts tables owed ends known t
   lasts_fresh owed ends known t change e q h busy =
       record { same = λ v k l. tick_quiet owed ends t change v q k (omega arith) ∙ sym e; busy = busy }
 
   -- after a tick with its word
-  pub lasts_next : (owed ends owed' ends' : List ℕ) (known : Kept) (t : ℕ) → n ≤ 32
-      → Lasts n c tables owed ends known t
+  pub lasts_next : (owed ends owed' ends' : List ℕ) (known : Kept) (t : ℕ)
+      → Lasts tables owed ends known t
       → Stepped 32 known.word t owed ends owed' ends'
-      → Lasts n c tables owed' ends' known (t + 1)
-  lasts_next owed ends owed' ends' known t few h stepped = record {
+      → Lasts tables owed' ends' known (t + 1)
+  lasts_next owed ends owed' ends' known t h stepped = record {
     same = λ v k l.
-        tick_stepped known.word t known.until v owed ends owed' ends' few h.busy (omega arith) stepped
+        tick_stepped known.word t known.until v owed ends owed' ends' h.busy (omega arith) stepped
         ∙ h.same v (omega arith) l;
     busy = λ a l k.
         let one : get_or owed' a 0 ≡ get_or owed a 0 - 1 =
@@ -137,21 +138,21 @@ module _ (n c : ℕ) (tables : List (List ℕ)) where
 
 -- ---- the next change
 
-pub unchanged_start : (tables : List (List ℕ)) (ends : List ℕ) (t u : ℕ) → Unchanged 0 tables ends t u
+pub unchanged_start : (tables : Tables) (ends : List ℕ) (t u : ℕ) → Unchanged 0 tables ends t u
 unchanged_start tables ends t u =
     record { released = quiet_start _ t u; ended = quiet_start _ t u; delayed = quiet_start _ t u }
 
 -- one activity more: its release, its end, and its end and delay
-pub unchanged_next : (n : ℕ) (tables : List (List ℕ)) (ends : List ℕ) (t u v w x late : ℕ) → t < 65536
-    → v ≡ cond (ltb t (get_or (releases tables) n 0) && ltb (get_or (releases tables) n 0) u) (get_or (releases tables) n 0) u
+pub unchanged_next : (n : ℕ) (tables : Tables) (ends : List ℕ) (t u v w x late : ℕ) → t < 65536
+    → v ≡ cond (ltb t (get_or tables.releases n 0) && ltb (get_or tables.releases n 0) u) (get_or tables.releases n 0) u
     → w ≡ cond (ltb t (get_or ends n 0) && ltb (get_or ends n 0) v) (get_or ends n 0) v
-    → late ≡ min (get_or ends n 0 + get_or (delays tables) n 0) 4294967295
+    → late ≡ min (get_or ends n 0 + get_or tables.delays n 0) 4294967295
     → x ≡ cond (ltb t late && ltb late w) late w
     → Unchanged n tables ends t u → Unchanged (n + 1) tables ends t x
 unchanged_next n tables ends t u v w x late soon e f g k q = record {
   released = quiet_sooner _ _ t w x late k (quiet_sooner _ _ t v w _ f (quiet_next n _ t u v e q.released));
   ended = quiet_sooner _ _ t w x late k (quiet_next n _ t v w f (quiet_sooner _ _ t u v _ e q.ended));
-  delayed = λ a l. up_to (λ a. t < get_or ends a 0 + get_or (delays tables) a 0 → x ≤ get_or ends a 0 + get_or (delays tables) a 0) n
+  delayed = λ a l. up_to (λ a. t < get_or ends a 0 + get_or tables.delays a 0 → x ≤ get_or ends a 0 + get_or tables.delays a 0) n
       (quiet_sooner n _ t w x late k (quiet_sooner n _ t v w _ f (quiet_sooner n _ t u v _ e q.delayed)))
       (λ h. omega (arith, g, (sooner_le w late t x k).1 (omega (arith, g, h, soon)))) a (omega arith);
 }

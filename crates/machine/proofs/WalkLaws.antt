@@ -25,9 +25,10 @@ use Rattle.laws.proofs.Rank.{place}
 use Rattle.laws.proofs.Cores.{cores_ext, cores-more, cores-none}
 use Rattle.laws.proofs.Selection.{selected, selected-fits}
 use Rattle.bits.proofs.Apart.{lowest_set}
+use Rattle.machine.specs.declared.inputs.Tables.{Tables}
 use Rattle.machine.specs.declared.tick.Walk.{Walk}
 use Rattle.machine.proofs.OrderLaws.{place_lt, place_same, before_place}
-use Rattle.machine.specs.Masks.{order, widths, passing, taking, walked_from, at_place, Tabled}
+use Rattle.machine.specs.Masks.{passing, taking, walked_from, at_place, Tabled}
 
 -- ---- words
 
@@ -73,18 +74,18 @@ taking-none : (w : Walk) (width : List ℕ) (mask : ℕ) → w.rest ≡ 0 → ta
 unfolding taking
 taking-none w width mask e = rw (eq-eqb (bit_and w.rest mask) 0 (ap (λ (x : ℕ). bit_and x mask) e ∙ and_zero_l mask))
 
-pub walk_over : (c ready : ℕ) (tables : List (List ℕ)) (k j : ℕ) → k ≤ j → (walked_from c ready tables k).rest ≡ 0
-    → walked_from c ready tables k ≡ walked_from c ready tables j
+pub walk_over : (ready : ℕ) (tables : Tables) (k j : ℕ) → k ≤ j → (walked_from ready tables k).rest ≡ 0
+    → walked_from ready tables k ≡ walked_from ready tables j
 unfolding walked_from
-walk_over c ready tables k zero h e = let first : k ≡ 0 = omega arith in ap (walked_from c ready tables) first
-walk_over c ready tables k (suc j) h e = ⊎_elim
+walk_over ready tables k zero h e = let first : k ≡ 0 = omega arith in ap (walked_from ready tables) first
+walk_over ready tables k (suc j) h e = ⊎_elim
     (λ (l : k < suc j).
-    let same = walk_over c ready tables k j (omega arith) e in
+    let same = walk_over ready tables k j (omega arith) e in
     same ∙ sym (taking-none _ _ _ (ap (λ (w : Walk). w.rest) (sym same) ∙ e)))
-    (λ (last : k ≡ suc j). ap (walked_from c ready tables) last)
+    (λ (last : k ≡ suc j). ap (walked_from ready tables) last)
     (below_suc k (suc j) (omega arith))
 
-module _ (m : Model) (release : ℕ → ℕ) (tables : List (List ℕ)) (tabled : Tabled m release tables) (rdy : ℕ → Bool) where
+module _ (m : Model) (release : ℕ → ℕ) (tables : Tables) (tabled : Tabled m release tables) (rdy : ℕ → Bool) where
   abbrev n : ℕ
   n = m.activities
 
@@ -104,12 +105,12 @@ module _ (m : Model) (release : ℕ → ℕ) (tables : List (List ℕ)) (tabled 
   Taken : ℕ → Walk → Type 0
   Taken k w = (w.rest ≡ word_of n (later k)) × (w.word ≡ word_of n (so_far k)) × (w.room + cores_of m (so_far k) ≡ m.cores)
 
-  taken_none : Taken 0 (record { rest = word_of n rdy; word = 0; room = m.cores })
+  taken_none : Taken 0 (record { rest = word_of n rdy; word = 0; room = tables.cores })
   unfolding Taken later so_far
   taken_none = (
     wordOf_ext n rdy (later 0) (λ b _. sym (ap (λ (t : Bool). rdy b && t) (le-leb 0 (place m b) (omega arith)) ∙ and-true (rdy b))),
     sym (word_none n (so_far 0) (λ b l. T_false (so_far 0 b) (none_yet b l))),
-    omega (arith, cores-none m (so_far 0) none_yet),
+    omega (arith, tabled.sizes.1, cores-none m (so_far 0) none_yet),
   )
     where
       none_yet : (b : ℕ) → b < n → ¬ T (so_far 0 b)
@@ -256,7 +257,7 @@ module _ (m : Model) (release : ℕ → ℕ) (tables : List (List ℕ)) (tabled 
       ]
 
     -- the walk past place k
-    taken_next : k < n → Taken (suc k) (taking w (widths tables) (get_or (order tables) k 0))
+    taken_next : k < n → Taken (suc k) (taking w tables.widths (get_or tables.order k 0))
     unfolding taking
     taken_next lk =
         rw (tabled.rank_order k lk, here_word)
@@ -267,13 +268,13 @@ module _ (m : Model) (release : ℕ → ℕ) (tables : List (List ℕ)) (tabled 
               rw (ne_eqb (word_of n (here k)) 0 ne, tabled.width_cores _ some_one.0) (taken_there _ some_one.0 some_one.1)
         ])
 
-  taken-all : (k : ℕ) → k ≤ n → Taken k (walked_from m.cores (word_of n rdy) tables k)
+  taken-all : (k : ℕ) → k ≤ n → Taken k (walked_from (word_of n rdy) tables k)
   unfolding walked_from
   taken-all zero h = taken_none
   taken-all (suc k) h = taken_next k _ (taken-all k (omega arith)) (omega arith)
 
   -- the word of the walk is that of what the machine selects
-  pub walk_is : (walked_from m.cores (word_of n rdy) tables n).word ≡ word_of n (selected m rdy)
+  pub walk_is : (walked_from (word_of n rdy) tables n).word ≡ word_of n (selected m rdy)
   unfolding Taken so_far
   walk_is =
       (taken-all n (omega arith)).1

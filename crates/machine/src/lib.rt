@@ -2,6 +2,7 @@
 #![tactic(auto)]
 
 mod ending;
+mod inputs;
 mod stretches;
 mod tick;
 
@@ -12,10 +13,10 @@ ghost use Rattle.tables.specs.Columns.{TableOf};
 ghost use Rattle.machine.specs.Masks.{at_place, Tabled};
 ghost use Rattle.machine.specs.Played.{Finished, played_ends, judged_numbers, played_judgement, played_grid};
 
+use inputs::Tables;
 use schedule::Refusal;
 use tables::columns::Column;
 use tables::ranking::Order;
-use tick::Tables;
 
 // The machine's state: "for each activity the ticks still owed, and its end once nothing is owed".
 #[derive(Clone, Copy)]
@@ -48,27 +49,29 @@ fn order(s: &[u8]) -> [u32; 32]
     let n = sizes.activities as usize;
     let befores = tables::ranking::masks(Order::Before, s);
     let mut order = [0u32; 32];
-    let mut a = 0;
-    while a < n {
+    for a in 0..n {
         let place = bits::ones(befores[a]) as usize;
         order[place] = bits::with(order[place], a as u32);
-        a += 1;
     }
     order
 }
 
-// What the machine needs of a model and the chosen releases, by activity; and the activities in rank order.
+// What the machine needs of a model and the chosen releases.
 fn tabulate(s: &[u8], q: &[u8]) -> Tables
     requires { (model s.now).activities ≤ 32 }
     ensures { Tabled (model s.now) (choice q.now).release result }
 {
-    let releases = tables::columns::table(Column::ChosenRelease, s, q);
-    let delays = tables::columns::table(Column::Delay, s, q);
-    let temporal = tables::columns::table(Column::Temporal, s, q);
-    let by_data = tables::columns::table(Column::ByData, s, q);
-    let widths = tables::columns::table(Column::Width, s, q);
-    let order = order(s);
-    [releases, delays, temporal, by_data, order, widths]
+    let sizes = records::model::counts(s);
+    Tables {
+        activities: sizes.activities as usize,
+        cores: sizes.cores as u32,
+        releases: tables::columns::table(Column::ChosenRelease, s, q),
+        delays: tables::columns::table(Column::Delay, s, q),
+        temporal: tables::columns::table(Column::Temporal, s, q),
+        by_data: tables::columns::table(Column::ByData, s, q),
+        widths: tables::columns::table(Column::Width, s, q),
+        order: order(s),
+    }
 }
 
 // "At the beginning t = 0 and each activity owes its chosen duration. .. Then t grows by one; stop at H." The words of the
@@ -79,20 +82,17 @@ fn play_ticks(s: &[u8], q: &[u8], tables: &Tables, grid: &mut [u8]) -> State
         result.owed result.ends }
 {
     let sizes = records::model::counts(s);
-    let n = sizes.activities as usize;
-    let cores = sizes.cores as u32;
-    let horizon = sizes.horizon as usize;
-    let mut owed = tables::columns::table(Column::ChosenDuration, s, q);
-    let mut ends = [0u32; 32];
+    let mut state = State {
+        owed: tables::columns::table(Column::ChosenDuration, s, q),
+        ends: [0; 32],
+    };
     let mut kept = ticks::unknown();
-    let mut t = 0;
-    while t < horizon {
-        kept = stretches::at(kept, n, cores, tables, &owed, &ends, t as u32);
-        tick::step(kept.word, t as u32, &mut owed, &mut ends);
-        records::grid::put_word(grid, t, kept.word);
-        t += 1;
+    for t in 0..sizes.horizon {
+        kept = tables.at(kept, &state, t);
+        state.step(kept.word, t);
+        records::grid::put_word(grid, t as usize, kept.word);
     }
-    State { owed, ends }
+    state
 }
 
 // Plays the machine of a model and a choice of any bytes, into a grid of any length: an empty one where no page is wanted.
@@ -112,8 +112,8 @@ pub fn play(s: &[u8], q: &[u8], grid: &mut [u8]) -> Played
     }
     let tables = tabulate(s, q);
     let last = play_ticks(s, q, &tables, grid);
-    let owed = last.owed;
-    let ends = last.ends;
-    let judged = ending::judge(s, q, &tables, &owed, &ends);
-    Played { ends, judged }
+    Played {
+        ends: last.ends,
+        judged: ending::judge(s, q, &tables, &last),
+    }
 }

@@ -1,2 +1,1 @@
 pub mod CaseLaws
-pub mod SizeLaws

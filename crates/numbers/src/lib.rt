@@ -1,5 +1,4 @@
-// The paper's numbers of the refusals, which answers fill the rows of the report, a little arithmetic of figures and ticks,
-// and a printed digit.
+// The paper's numbers of the refusals, which answers fill the rows of the report, and what is printed of a figure and a digit.
 #![tactic(auto)]
 
 ghost use Rattle.std.specs.Prelude.{◌≡◌, ◌+◌, ◌-◌, ◌%◌, max, min, nat_abs};
@@ -136,52 +135,11 @@ pub fn fills(answer: RunVerdict) -> bool
     ensures { result ≡ fills (run_numbers answer) }
 {
     match answer {
-        RunVerdict::Accepted(_) => true,
-        RunVerdict::Refused(x) => {
+        Ok(_) => true,
+        Err(x) => {
             let said = refusal_numbers(x);
             said.number == 43
         }
-    }
-}
-
-// The larger of two numbers.
-pub fn larger(x: u32, y: u32) -> u32
-    ensures { result ≡ max x y }
-{
-    if x <= y { y } else { x }
-}
-
-// The smaller of two numbers.
-pub fn smaller(x: u32, y: u32) -> u32
-    ensures { result ≡ min x y }
-{
-    if x <= y { x } else { y }
-}
-
-// A difference that stops at 0.
-pub fn less(x: u32, y: u32) -> u32
-    ensures { result ≡ x - y }
-{
-    if y <= x { x - y } else { 0 }
-}
-
-// A sum that stops at the largest number.
-pub fn sum(x: u32, y: u32) -> u32
-    ensures { result ≡ min (x + y) 4294967295 }
-{
-    let room = 0xffff_ffff - x;
-    if y <= room { x + y } else { 0xffff_ffff }
-}
-
-// A signed number without its sign. 64 bits hold the opposite of every one.
-pub fn size(x: i32) -> u32
-    ensures { result ≡ nat_abs x }
-{
-    let wide = x as i64;
-    if wide < 0 {
-        (0 - wide) as u32
-    } else {
-        wide as u32
     }
 }
 

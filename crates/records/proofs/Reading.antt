@@ -5,6 +5,7 @@ use mathlib.Core.Bool.{Bool, true, false, cond}
 use mathlib.Core.List.{List, [], ◌∷◌, ◌++◌}
 use mathlib.Core.Option.{Option, some, none}
 use mathlib.Core.Path.{◌≡◌, refl, sym, subst, ap, ap₂, ◌∙◌}
+use Rattle.std.specs.Prelude.{Result, Ok, Err}
 use Rattle.schedule.specs.Bounded.{first}
 use Rattle.schedule.specs.Rule
 use Rattle.schedule.specs.Rule.{Rule, break, first_break}
@@ -12,10 +13,8 @@ use Rattle.schedule.specs.Answers.{Answer, accepted, refused, answer}
 use Rattle.schedule.specs.Numbers.{refusal_numbers}
 use Rattle.schedule.specs.declared.Refusal.{Refusal}
 use Rattle.laws.proofs.RowLaws.{ClearTo, clear_again, clear-end, clear-stop, refusal_at, row_break}
-use Rattle.records.specs.declared.Pass.{Pass}
 use Rattle.records.specs.declared.rows.Row.{Row}
-use Rattle.records.specs.declared.rows.RowRead.{RowRead}
-use Rattle.records.specs.Reads.{refusal_of, answer_at, row_answer, row_read_numbers, pass_numbers, pass_of, pick}
+use Rattle.records.specs.Reads.{refusal_of, answer_at, row_answer, row_read_numbers, pass_numbers, pick}
 
 -- a call that tells a test said no, or yes
 pub told_no : {r s : Bool} → r ≡ s → r ≡ false → s ≡ false
@@ -43,21 +42,21 @@ row-break r a row e =
     one false = refl
 
 -- a loop over the rows of a rule: before row i none is broken, and row i is read
-module _ (r : Rule) (i : ℕ) (row : Row) (read : RowRead) (single : r.columns ≡ 1) (clear : ClearTo r i)
+module _ (r : Rule) (i : ℕ) (row : Row) (read : Result Row Refusal) (single : r.columns ≡ 1) (clear : ClearTo r i)
     (e : row_read_numbers read ≡ row_answer r i row) where
   broken : row_break r i ≡ refusal_of (row_read_numbers read)
   broken = row-break r i row single ∙ ap refusal_of (sym e)
 
   -- it is taken, and the rows stay clear
-  pub row-taken : (kept : Row) → read ≡ RowRead.Row kept → ClearTo r (i + 1)
-  row-taken kept told = clear_again r i clear (broken ∙ ap (λ (x : RowRead). refusal_of (row_read_numbers x)) told)
+  pub row-taken : (kept : Row) → read ≡ Ok kept → ClearTo r (i + 1)
+  row-taken kept told = clear_again r i clear (broken ∙ ap (λ (x : Result Row Refusal). refusal_of (row_read_numbers x)) told)
 
   -- it is refused, and that is the rule's break
-  pub row-refused : (x : Refusal) (pass : Pass) → i < r.rows → read ≡ RowRead.Refused x → pass ≡ pass_of read
+  pub row-refused : (x : Refusal) (pass : Result (Unit {0}) Refusal) → i < r.rows → read ≡ Err x → pass ≡ Err x
       → pass_numbers pass ≡ break r
   row-refused x pass l told p =
-      ap pass_numbers (p ∙ ap pass_of told)
-      ∙ sym (clear-stop r i (refusal_numbers x) clear l (broken ∙ ap (λ (x : RowRead). refusal_of (row_read_numbers x)) told))
+      ap pass_numbers p
+      ∙ sym (clear-stop r i (refusal_numbers x) clear l (broken ∙ ap (λ (x : Result Row Refusal). refusal_of (row_read_numbers x)) told))
 
 -- all rows are clear
 pub rows_end : (r : Rule) (i : ℕ) → r.rows ≡ i → ClearTo r i → break r ≡ none
@@ -81,19 +80,19 @@ orElse_pick false number o rest = refl
 
 -- a pass p over the first of some rules, whose first break is o: it is refused, and that is the break, or it holds, and the
 -- rest decides
-module _ (o p rest : Option Rule.Refusal) (pass : Pass) (whole : o ≡ or_else p rest) (e : pass_numbers pass ≡ p) where
-  pub pass_refused : (x : Refusal) → pass ≡ Pass.Refused x → some (refusal_numbers x) ≡ o
+module _ (o p rest : Option Rule.Refusal) (pass : Result (Unit {0}) Refusal) (whole : o ≡ or_else p rest) (e : pass_numbers pass ≡ p) where
+  pub pass_refused : (x : Refusal) → pass ≡ Err x → some (refusal_numbers x) ≡ o
   pass_refused x told = sym (whole ∙ ap (λ (q : Option Rule.Refusal). or_else q rest) (sym e ∙ ap pass_numbers told))
 
-  pub pass_holds : pass ≡ Pass.Holds → o ≡ rest
+  pub pass_holds : pass ≡ Ok tt → o ≡ rest
   pass_holds told = whole ∙ ap (λ (q : Option Rule.Refusal). or_else q rest) (sym e ∙ ap pass_numbers told)
 
 -- the pass over the last of them
-module _ (o : Option Rule.Refusal) (pass : Pass) (e : pass_numbers pass ≡ o) where
-  pub last_refused : (x : Refusal) → pass ≡ Pass.Refused x → some (refusal_numbers x) ≡ o
+module _ (o : Option Rule.Refusal) (pass : Result (Unit {0}) Refusal) (e : pass_numbers pass ≡ o) where
+  pub last_refused : (x : Refusal) → pass ≡ Err x → some (refusal_numbers x) ≡ o
   last_refused x told = sym (ap pass_numbers told) ∙ e
 
-  pub last_holds : pass ≡ Pass.Holds → none ≡ o
+  pub last_holds : pass ≡ Ok tt → none ≡ o
   last_holds told = sym (ap pass_numbers told) ∙ e
 
 next : (o p : Option Rule.Refusal) → elim o [ some x ↦ some x | none ↦ p ] ≡ or_else o p

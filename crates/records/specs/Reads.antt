@@ -1,7 +1,7 @@
 -- What the readers' answers say in the paper's numbers, what a row of a rule answers, and the first break of the rules that
 -- name no row.
 -- Assumes nothing.
-use Rattle.std.specs.Prelude.{ℕ, Bool, ◌&&◌, cond, List, eqb, leb, length}
+use Rattle.std.specs.Prelude.{ℕ, Bool, ◌&&◌, cond, List, eqb, leb, length, Result, Ok, Err}
 use Rattle.std.proofs.Math.Option.{Option, some, none}
 use Rattle.schedule.specs.Fields.{field}
 use Rattle.schedule.specs.Records.{within}
@@ -10,14 +10,10 @@ use Rattle.schedule.specs.Rule.{Rule}
 use Rattle.schedule.specs.Answers.{Answer, accepted, refused}
 use Rattle.schedule.specs.Numbers.{form_number, refusal_numbers}
 use Rattle.schedule.specs.declared.FormRefusal.{FormRefusal}
-use Rattle.records.specs.declared.Pass.{Pass}
+use Rattle.schedule.specs.declared.Refusal.{Refusal}
 use Rattle.records.specs.declared.form.Names.{Names}
 use Rattle.records.specs.declared.rows.Row.{Row}
-use Rattle.records.specs.declared.rows.RowRead.{RowRead}
 use Rattle.records.specs.declared.model.Sizes.{Sizes}
-use Rattle.records.specs.declared.model.ModelRead.{ModelRead}
-use Rattle.records.specs.declared.choice.ChoiceRead.{ChoiceRead}
-use Rattle.records.specs.declared.plan.PlanRead.{PlanRead}
 use Rattle.records.specs.Rows.{counts_hold}
 
 -- a refusal that names row A alone
@@ -29,10 +25,10 @@ abbrev pub refusal_of : {F : Type 0} → Answer F → Option Rule.Refusal
 refusal_of (accepted row) = none
 refusal_of (refused x) = some x
 
--- a pass over all rows of a rule
-abbrev pub pass_numbers : Pass → Option Rule.Refusal
-pass_numbers Pass.Holds = none
-pass_numbers (Pass.Refused x) = some (refusal_numbers x)
+-- what one rule, or several in their order, answer: "Each number is tried over all its rows before the next"
+abbrev pub pass_numbers : Result (Unit {0}) Refusal → Option Rule.Refusal
+pass_numbers (Ok _) = none
+pass_numbers (Err x) = some (refusal_numbers x)
 
 -- ---- a row
 
@@ -44,14 +40,9 @@ answer_at t row number a = cond t (accepted row) (refused (refusal_in number a))
 unfoldable pub row_answer : {F : Type 0} → Rule → ℕ → F → Answer F
 row_answer r a row = answer_at (r.test a 0) row r.number a
 
-abbrev pub row_read_numbers : RowRead → Answer Row
-row_read_numbers (RowRead.Row row) = accepted row
-row_read_numbers (RowRead.Refused x) = refused (refusal_numbers x)
-
--- the refusal that a row's answer carries
-abbrev pub pass_of : RowRead → Pass
-pass_of (RowRead.Row row) = Pass.Holds
-pass_of (RowRead.Refused x) = Pass.Refused x
+abbrev pub row_read_numbers : Result Row Refusal → Answer Row
+row_read_numbers (Ok row) = accepted row
+row_read_numbers (Err x) = refused (refusal_numbers x)
 
 -- ---- the rules that name no row
 
@@ -94,16 +85,8 @@ second_names = record {
 abbrev pub second_head : List ℕ → List ℕ → ℕ → Bool → ℕ → Option Rule.Refusal
 second_head s r least same-horizon wanted = head_break r second_names least 1 (same-horizon && counts_hold s r) wanted
 
--- ---- the three records
+-- ---- the model
 
-abbrev pub model_read_numbers : ModelRead → Answer Sizes
-model_read_numbers (ModelRead.Model sizes) = accepted sizes
-model_read_numbers (ModelRead.Refused x) = refused (refusal_numbers x)
-
-abbrev pub choice_read_numbers : ChoiceRead → Option Rule.Refusal
-choice_read_numbers ChoiceRead.Choice = none
-choice_read_numbers (ChoiceRead.Refused x) = some (refusal_numbers x)
-
-abbrev pub plan_read_numbers : PlanRead → Option Rule.Refusal
-plan_read_numbers PlanRead.Plan = none
-plan_read_numbers (PlanRead.Refused x) = some (refusal_numbers x)
+abbrev pub model_read_numbers : Result Sizes Refusal → Answer Sizes
+model_read_numbers (Ok sizes) = accepted sizes
+model_read_numbers (Err x) = refused (refusal_numbers x)

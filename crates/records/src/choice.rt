@@ -5,12 +5,12 @@ ghost use Rattle.schedule.specs.Model.{model};
 ghost use Rattle.schedule.specs.Choice.{choice, choice_form, choice_length, duration_at, duration_rule};
 ghost use Rattle.schedule.specs.Answers.{run_checks};
 ghost use Rattle.records.specs.Rows.{timing};
-ghost use Rattle.records.specs.Reads.{row_answer, row_read_numbers, pass_numbers, choice_read_numbers};
+ghost use Rattle.records.specs.Reads.{row_answer, row_read_numbers, pass_numbers};
 
-use crate::model::{Activity, ModelRead, Thread};
+use crate::model::{Activity, Thread};
 use crate::plan::Timing;
-use crate::rows::{Row, RowRead};
-use crate::{Pass, form, model, rows, timings};
+use crate::rows::Row;
+use crate::{form, model, rows, timings};
 use schedule::{FormRefusal, Refusal};
 
 // Where the thread rows begin, behind the counts.
@@ -56,7 +56,7 @@ fn formula(q: &[u8]) -> u32
 }
 
 // Activity a's duration, or its refusal by rule 13: "duration outside its range".
-fn read_duration(s: &[u8], q: &[u8], a: Activity) -> RowRead
+fn read_duration(s: &[u8], q: &[u8], a: Activity) -> Result<Row, Refusal>
     ensures { row_read_numbers result
         ≡ row_answer (duration_rule (model s.now) (choice q.now)) a.0
         (Row.Duration ((choice q.now).duration a.0)) }
@@ -74,59 +74,32 @@ fn read_duration(s: &[u8], q: &[u8], a: Activity) -> RowRead
 }
 
 // Rule 13 over all activities of the model.
-fn over_durations(s: &[u8], q: &[u8]) -> Pass
+fn over_durations(s: &[u8], q: &[u8]) -> Result<(), Refusal>
     ensures { pass_numbers result ≡ break (duration_rule (model s.now) (choice q.now)) }
 {
     let sizes = model::counts(s);
-    let activities = sizes.activities;
-    let mut a: u8 = 0;
-    while a < activities {
+    for a in 0..sizes.activities {
         let read = read_duration(s, q, Activity(a));
-        let RowRead::Row(_) = read else {
-            return read.pass();
+        let Ok(_) = read else {
+            return read.map(|_| ());
         };
-        a += 1;
     }
-    Pass::Holds
-}
-
-// What reading a choice beside a model answers.
-#[derive(Clone, Copy)]
-pub enum ChoiceRead {
-    Choice,
-    Refused(Refusal),
+    Ok(())
 }
 
 // Rules 8 to 13, "in list order", beside the bytes of any model.
-pub fn read(s: &[u8], q: &[u8]) -> ChoiceRead
-    ensures { choice_read_numbers result ≡ first_break (choice_form (model s.now) q.now) }
+pub fn read(s: &[u8], q: &[u8]) -> Result<(), Refusal>
+    ensures { pass_numbers result ≡ first_break (choice_form (model s.now) q.now) }
 {
-    let head = form::second_head(s, q, ROWS, true, formula(q));
-    if let Pass::Refused(x) = head {
-        return ChoiceRead::Refused(x);
-    }
-    let timings = timings::over_timings(s, q, ROWS);
-    if let Pass::Refused(x) = timings {
-        return ChoiceRead::Refused(x);
-    }
-    let durations = over_durations(s, q);
-    if let Pass::Refused(x) = durations {
-        return ChoiceRead::Refused(x);
-    }
-    ChoiceRead::Choice
+    form::second_head(s, q, ROWS, true, formula(q))?;
+    timings::over_timings(s, q, ROWS)?;
+    over_durations(s, q)
 }
 
 // The input of a run: "The model is tried first, in list order", then the choice beside it.
-pub fn read_both(s: &[u8], q: &[u8]) -> Pass
+pub fn read_both(s: &[u8], q: &[u8]) -> Result<(), Refusal>
     ensures { pass_numbers result ≡ first_break (run_checks s.now q.now) }
 {
-    let first = model::read(s);
-    if let ModelRead::Refused(x) = first {
-        return Pass::Refused(x);
-    }
-    let second = read(s, q);
-    if let ChoiceRead::Refused(x) = second {
-        return Pass::Refused(x);
-    }
-    Pass::Holds
+    model::read(s)?;
+    read(s, q)
 }

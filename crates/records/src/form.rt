@@ -8,7 +8,7 @@ ghost use Rattle.schedule.specs.Numbers.{form_number, refusal_numbers};
 ghost use Rattle.records.specs.Reads.{refusal_in, pass_numbers, sized, head_break, second_head};
 ghost use Rattle.records.specs.Rows.{counts_hold, none_from};
 
-use crate::{Pass, model};
+use crate::model;
 use schedule::{FormRefusal, Place, Refusal};
 
 // "A refusal answers its number, A and B", B not named.
@@ -74,10 +74,10 @@ pub(crate) fn none_from(word: u32, n: u8) -> bool
 // ---- the rules that name no row
 
 // Such a rule is broken: "A and B are 0 where not named".
-pub(crate) fn refused(why: FormRefusal) -> Pass
+pub(crate) fn refused(why: FormRefusal) -> Result<(), Refusal>
     ensures { pass_numbers result ≡ some (refusal_in (form_number why) 0) }
 {
-    Pass::Refused(refusal(why, 0))
+    Err(refusal(why, 0))
 }
 
 // What the four rules that come first are called in a record.
@@ -91,31 +91,40 @@ pub(crate) struct Names {
 
 // Rules 1 to 4 of a model and 8 to 11 of a choice or a plan, "in list order": at least that many bytes, a version up to the
 // newest, the counts as they were found to be, and the length that the formula gives.
-pub(crate) fn head(s: &[u8], names: Names, least: u8, newest: u8, counts: bool, wanted: u32) -> Pass
+pub(crate) fn head(
+    s: &[u8],
+    names: Names,
+    least: u8,
+    newest: u8,
+    counts: bool,
+    wanted: u32,
+) -> Result<(), Refusal>
     ensures { pass_numbers result ≡ head_break s.now names least newest counts wanted }
 {
     if !length_holds(s, least as usize) {
-        let why = names.size;
-        return refused(why);
+        return refused(names.size);
     }
     if !version_holds(s, newest) {
-        let why = names.version;
-        return refused(why);
+        return refused(names.version);
     }
     if !counts {
-        let why = names.counts;
-        return refused(why);
+        return refused(names.counts);
     }
     if !formula_holds(s, wanted) {
-        let why = names.formula;
-        return refused(why);
+        return refused(names.formula);
     }
-    Pass::Holds
+    Ok(())
 }
 
 // Rules 8 to 11 of a choice or a plan beside a model. Its thread rows begin at a position, behind the bytes that it has at
 // least; a choice has no horizon that could differ from the model's.
-pub(crate) fn second_head(s: &[u8], r: &[u8], first: u8, same_horizon: bool, wanted: u32) -> Pass
+pub(crate) fn second_head(
+    s: &[u8],
+    r: &[u8],
+    first: u8,
+    same_horizon: bool,
+    wanted: u32,
+) -> Result<(), Refusal>
     ensures { pass_numbers result ≡ second_head s.now r.now first same_horizon wanted }
 {
     let names = Names {

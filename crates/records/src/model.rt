@@ -8,8 +8,8 @@ ghost use Rattle.records.specs.Rows.{sizes_of, thread_row_of, activity_row_of, t
 ghost use Rattle.records.specs.Unrolled.{unrolled_sizes, moved_thread, moved_activity};
 ghost use Rattle.records.specs.Reads.{model_read_numbers};
 
+use crate::form;
 use crate::plan::Timing;
-use crate::{Pass, form};
 use schedule::Refusal;
 
 mod page;
@@ -226,24 +226,11 @@ pub(crate) fn in_range(s: &[u8], j: u8, x: Timing) -> bool
 
 // ---- the form rules
 
-// What reading a model answers.
-#[derive(Clone, Copy)]
-pub enum ModelRead {
-    Model(Sizes),
-    Refused(Refusal),
-}
-
-// "The model is tried first, in list order": rules 1 to 4 and 51, then those of the rows.
-pub fn read(s: &[u8]) -> ModelRead
+// "The model is tried first, in list order": rules 1 to 4 and 51, then those of the rows. Answers the counts.
+pub fn read(s: &[u8]) -> Result<Sizes, Refusal>
     ensures { model_read_numbers result ≡ answer (first_break (model_form s.now)) (sizes_of (model s.now)) }
 {
-    let head = rules::head(s);
-    if let Pass::Refused(x) = head {
-        return ModelRead::Refused(x);
-    }
-    let rows = rules::row_rules(s);
-    if let Pass::Refused(x) = rows {
-        return ModelRead::Refused(x);
-    }
-    ModelRead::Model(counts(s))
+    rules::head(s)?;
+    rules::row_rules(s)?;
+    Ok(counts(s))
 }

@@ -10,11 +10,11 @@ ghost use Rattle.schedule.specs.Plan.{plan_length, tick_at, word_in, word_rule};
 ghost use Rattle.fields.specs.Put.{put};
 ghost use Rattle.records.specs.Rows.{plan_sizes_of, timing, span_of, horizon_holds, none_from};
 ghost use Rattle.records.specs.Writes.{head_bytes};
-ghost use Rattle.records.specs.Reads.{answer_at, row_read_numbers, pass_numbers, plan_read_numbers};
+ghost use Rattle.records.specs.Reads.{answer_at, row_read_numbers, pass_numbers};
 
 use crate::model::{Activity, Thread};
-use crate::rows::{Row, RowRead};
-use crate::{Pass, form, grid, model, rows, timings};
+use crate::rows::Row;
+use crate::{form, grid, model, rows, timings};
 use schedule::{FormRefusal, Refusal};
 
 // The counts at the head of a plan.
@@ -205,7 +205,7 @@ fn horizon_holds(s: &[u8], r: &[u8]) -> bool
 }
 
 // The word of tick t in a grid, or its refusal by rule 14, where there are so many activities: "a bit at or above m".
-fn read_word(grid: &[u8], t: u16, activities: u8) -> RowRead
+fn read_word(grid: &[u8], t: u16, activities: u8) -> Result<Row, Refusal>
     ensures { row_read_numbers result
         ≡ answer_at (none_from (word_in grid.now t) activities) (Row.Word (word_in grid.now t)) 14 t }
 {
@@ -215,48 +215,27 @@ fn read_word(grid: &[u8], t: u16, activities: u8) -> RowRead
 }
 
 // Rule 14 over all ticks of the model.
-fn over_words(s: &[u8], r: &[u8]) -> Pass
+fn over_words(s: &[u8], r: &[u8]) -> Result<(), Refusal>
     ensures { pass_numbers result ≡ break (word_rule (model s.now) (plan r.now)) }
 {
     let sizes = model::counts(s);
-    let activities = sizes.activities;
-    let horizon = sizes.horizon;
     let grid = words(r);
-    let mut t: u16 = 0;
-    while t < horizon {
-        let read = read_word(grid, t, activities);
-        let RowRead::Row(_) = read else {
-            return read.pass();
+    for t in 0..sizes.horizon {
+        let read = read_word(grid, t, sizes.activities);
+        let Ok(_) = read else {
+            return read.map(|_| ());
         };
-        t += 1;
     }
-    Pass::Holds
-}
-
-// What reading a plan beside a model answers.
-#[derive(Clone, Copy)]
-pub enum PlanRead {
-    Plan,
-    Refused(Refusal),
+    Ok(())
 }
 
 // Rules 8 to 12 and 14, "in list order", beside the bytes of any model.
-pub fn read(s: &[u8], r: &[u8]) -> PlanRead
-    ensures { plan_read_numbers result ≡ first_break (plan_form (model s.now) r.now) }
+pub fn read(s: &[u8], r: &[u8]) -> Result<(), Refusal>
+    ensures { pass_numbers result ≡ first_break (plan_form (model s.now) r.now) }
 {
     let sizes = counts(r);
     let wanted = length(sizes.threads, sizes.activities, sizes.horizon);
-    let head = form::second_head(s, r, ROWS, horizon_holds(s, r), wanted);
-    if let Pass::Refused(x) = head {
-        return PlanRead::Refused(x);
-    }
-    let timings = timings::over_timings(s, r, ROWS);
-    if let Pass::Refused(x) = timings {
-        return PlanRead::Refused(x);
-    }
-    let words = over_words(s, r);
-    if let Pass::Refused(x) = words {
-        return PlanRead::Refused(x);
-    }
-    PlanRead::Plan
+    form::second_head(s, r, ROWS, horizon_holds(s, r), wanted)?;
+    timings::over_timings(s, r, ROWS)?;
+    over_words(s, r)
 }

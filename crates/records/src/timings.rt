@@ -7,9 +7,9 @@ ghost use Rattle.records.specs.Rows.{timing_at, timing_rule};
 ghost use Rattle.records.specs.Reads.{row_answer, row_read_numbers, pass_numbers};
 
 use crate::plan::Timing;
-use crate::rows::{Row, RowRead};
-use crate::{Pass, model, rows};
-use schedule::FormRefusal;
+use crate::rows::Row;
+use crate::{model, rows};
+use schedule::{FormRefusal, Refusal};
 
 // Where row j stands in rows that begin at a position.
 pub(crate) fn row_at(first: u8, j: u8) -> usize
@@ -30,7 +30,7 @@ pub(crate) fn row(r: &[u8], first: u8, j: u8) -> Timing
 }
 
 // Thread j's row, or its refusal by rule 12.
-fn read_timing(s: &[u8], r: &[u8], first: u8, j: u8) -> RowRead
+fn read_timing(s: &[u8], r: &[u8], first: u8, j: u8) -> Result<Row, Refusal>
     ensures { row_read_numbers result
         ≡ row_answer (timing_rule (model s.now) r.now first) j
         (Row.Timing (timing_at r.now first j)) }
@@ -46,18 +46,15 @@ fn read_timing(s: &[u8], r: &[u8], first: u8, j: u8) -> RowRead
 }
 
 // Rule 12 over all threads of the model.
-pub(crate) fn over_timings(s: &[u8], r: &[u8], first: u8) -> Pass
+pub(crate) fn over_timings(s: &[u8], r: &[u8], first: u8) -> Result<(), Refusal>
     ensures { pass_numbers result ≡ break (timing_rule (model s.now) r.now first) }
 {
     let sizes = model::counts(s);
-    let threads = sizes.threads;
-    let mut j: u8 = 0;
-    while j < threads {
+    for j in 0..sizes.threads {
         let read = read_timing(s, r, first, j);
-        let RowRead::Row(_) = read else {
-            return read.pass();
+        let Ok(_) = read else {
+            return read.map(|_| ());
         };
-        j += 1;
     }
-    Pass::Holds
+    Ok(())
 }

@@ -12,7 +12,8 @@ use Rattle.schedule.specs.Bounded.{total, greatest, least}
 use Rattle.schedule.specs.Rule.{Refusal, first_break}
 use Rattle.schedule.specs.declared.Refusal.{Refusal as Declared}
 use Rattle.schedule.specs.declared.RunRefusal.{RunRefusal}
-use Rattle.schedule.specs.declared.RunVerdict.{RunVerdict}
+use Rattle.std.specs.Prelude.{Err}
+use Rattle.schedule.specs.Numbers.{RunVerdict}
 use Rattle.schedule.specs.Numbers.{refusal_numbers, run_number, run_numbers}
 use Rattle.schedule.specs.Model.{Model, model}
 use Rattle.schedule.specs.Choice.{Choice, choice}
@@ -120,7 +121,7 @@ fits-reports m q list list' r l h =
 -- 50
 pub short-reports : (m : Model) (q : Choice) (list : List ℤ) (x : Declared) → length list < rows_needed
     → refusal_numbers x ≡ record { number = 50; A = 0; B = 0 }
-    → Reports (past_input m q (length list)) m q list list (RunVerdict.Refused x)
+    → Reports (past_input m q (length list)) m q list list (Err x)
 unfolding answer
 short-reports m q list x l e =
     same_answer (ap (λ o. answer o (written m q)) (sym (rows_short (length list) (run_rules m q) l)))

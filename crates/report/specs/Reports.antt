@@ -7,7 +7,7 @@ use Rattle.schedule.specs.Choice.{Choice}
 use Rattle.schedule.specs.Answers.{Answer, answer, run_rules, Written, written}
 use Rattle.schedule.specs.Report.{rows_rule, rows_after}
 use Rattle.schedule.specs.Numbers.{run_numbers}
-use Rattle.schedule.specs.declared.RunVerdict.{RunVerdict}
+use Rattle.schedule.specs.Numbers.{RunVerdict}
 
 -- 50, then 42 and 43
 abbrev pub past_input : Model → Choice → ℕ → Answer Written

@@ -7,7 +7,6 @@ ghost use Rattle.schedule.specs.Answers.{figures, machine_plan, written};
 ghost use Rattle.schedule.specs.Numbers.{figure_numbers, written_numbers};
 ghost use Rattle.report.specs.Tables.{Below, AllEnded};
 
-use numbers::{larger, less};
 use schedule::{Figures, Written};
 use tables::columns::Column;
 use tables::figures::Second;
@@ -19,10 +18,8 @@ fn core_ticks(n: usize, durations: &[u32; 32], widths: &[u32; 32]) -> u32
         ≡ total n (λ a. get_or durations.now a 0 * get_or widths.now a 0) }
 {
     let mut all: u32 = 0;
-    let mut a = 0;
-    while a < n {
+    for a in 0..n {
         all += durations[a] * widths[a];
-        a += 1;
     }
     all
 }
@@ -33,10 +30,8 @@ fn latest(n: usize, table: &[u32; 32]) -> u32
     ensures { result ≡ greatest n (λ a. get_or table.now a 0) }
 {
     let mut latest: u32 = 0;
-    let mut a = 0;
-    while a < n {
-        latest = larger(latest, table[a]);
-        a += 1;
+    for a in 0..n {
+        latest = latest.max(table[a]);
     }
     latest
 }
@@ -59,11 +54,12 @@ fn figures(s: &[u8], q: &[u8], ends: &[u32; 32]) -> Figures
     Figures {
         usage: core_ticks(n, &durations, &widths),
         capacity,
-        makespan: less(latest(n, ends), first),
+        makespan: latest(n, ends).saturating_sub(first),
     }
 }
 
 // The same with the length of the plan.
+#[tactic(auto, unfolding(records::specs::Rows::sizes_of, schedule::specs::Answers::length_needed))]
 pub(crate) fn written(s: &[u8], q: &[u8], ends: &[u32; 32]) -> Written
     requires { AllEnded (model s.now) (choice q.now) ends.now }
     ensures { written_numbers result ≡ written (model s.now) (choice q.now) }

@@ -9,8 +9,7 @@ ghost use Rattle.schedule.specs.Numbers.{run_numbers};
 ghost use Rattle.machine.specs.Played.{Ended};
 ghost use Rattle.report.specs.Reports.{past_input, past_rows, Reports};
 
-use machine::Judged;
-use records::Pass;
+use machine::{Judged, Played};
 use schedule::{Place, Refusal, RunRefusal, RunVerdict};
 
 mod figures;
@@ -21,25 +20,25 @@ const ROWS: usize = 32;
 
 // The run's answer, from how the machine ended. The form rules have passed, so the machine was played, and what is not refused
 // is a success.
-fn verdict(s: &[u8], q: &[u8], judged: Judged, ends: &[u32; 32]) -> RunVerdict
-    requires { Ended (model s.now) (choice q.now) judged ends.now }
+fn verdict(s: &[u8], q: &[u8], played: &Played) -> RunVerdict
+    requires { Ended (model s.now) (choice q.now) played.now.judged played.now.ends }
     ensures { run_numbers result ≡ past_rows (model s.now) (choice q.now) }
 {
-    if let Judged::Refused(x) = judged {
-        return RunVerdict::Refused(x);
+    if let Judged::Refused(x) = played.judged {
+        return Err(x);
     }
-    RunVerdict::Accepted(figures::written(s, q, ends))
+    Ok(figures::written(s, q, &played.ends))
 }
 
 // The answer, and the rows filled "for success and for 43; for every other answer no row is written".
-fn conclude(s: &[u8], q: &[u8], judged: Judged, ends: &[u32; 32], list: &mut [i32]) -> RunVerdict
-    requires { Ended (model s.now) (choice q.now) judged ends.now × (rows_needed ≤ length list.old) }
+fn conclude(s: &[u8], q: &[u8], played: &Played, list: &mut [i32]) -> RunVerdict
+    requires { Ended (model s.now) (choice q.now) played.now.judged played.now.ends × (rows_needed ≤ length list.old) }
     ensures { Reports (past_rows (model s.now) (choice q.now)) (model s.now)
         (choice q.now) list.old list.new result }
 {
-    let answer = verdict(s, q, judged, ends);
+    let answer = verdict(s, q, played);
     if numbers::fills(answer) {
-        rows::write(s, q, ends, list);
+        rows::write(s, q, &played.ends, list);
     }
     answer
 }
@@ -53,13 +52,11 @@ fn attempt(s: &[u8], q: &[u8], list: &mut [i32]) -> RunVerdict
 {
     if list.len() < ROWS {
         let place = Place { a: 0, b: 0 };
-        return RunVerdict::Refused(Refusal::Run(RunRefusal::Rows, place));
+        return Err(Refusal::Run(RunRefusal::Rows, place));
     }
     let mut no_page = [0u8; 0];
     let played = machine::play(s, q, &mut no_page);
-    let ends = played.ends;
-    let judged = played.judged;
-    conclude(s, q, judged, &ends, list)
+    conclude(s, q, &played, list)
 }
 
 // The report on a model's and a choice's bytes, with a row for each activity written into the lent list.
@@ -67,9 +64,6 @@ pub fn lateness(model: &[u8], choice: &[u8], list: &mut [i32]) -> RunVerdict
     ensures { (run_numbers result ≡ report_answer model.now choice.now (length list.old))
         × (list.new ≡ report_rows model.now choice.now list.old) }
 {
-    let input = records::choice::read_both(model, choice);
-    if let Pass::Refused(x) = input {
-        return RunVerdict::Refused(x);
-    }
+    records::choice::read_both(model, choice)?;
     attempt(model, choice, list)
 }

@@ -22,10 +22,8 @@ fn fill(n: usize, releases: &[u32; 32], periods: &[u32; 32], ends: &[u32; 32], l
     ensures { list.new
         ≡ table n (row_from releases.now periods.now ends.now) ++ drop n list.old }
 {
-    let mut a = 0;
-    while a < n {
+    for a in 0..n {
         list[a] = figure(releases[a], periods[a], ends[a]);
-        a += 1;
     }
 }
 

@@ -15,7 +15,8 @@ use Rattle.schedule.specs.Bounded.{bit}
 use Rattle.schedule.specs.Rule.{Refusal, first_break}
 use Rattle.schedule.specs.declared.Figures.{Figures as Shown}
 use Rattle.schedule.specs.declared.Refusal.{Refusal as Declared}
-use Rattle.schedule.specs.declared.RunVerdict.{RunVerdict}
+use Rattle.std.specs.Prelude.{Ok, Err}
+use Rattle.schedule.specs.Numbers.{RunVerdict}
 use Rattle.schedule.specs.Numbers.{refusal_numbers, figure_numbers, run_numbers}
 use Rattle.schedule.specs.Model.{Model, Formed, model}
 use Rattle.schedule.specs.Choice.{Choice, choice}
@@ -174,7 +175,7 @@ refused-same m q x l l' e = ap (λ (b : List ℕ). replicate (length_needed m) 0
 pub refused-answers : (m : Model) (q : Choice) (out out' : List ℕ) (x : Declared)
     → first_break (run_rules m q) ≡ some (refusal_numbers x)
     → out' ≡ replicate (length_needed m) 0 ++ drop (length_needed m) out
-    → Answers (concluded m q) m q out out' (RunVerdict.Refused x)
+    → Answers (concluded m q) m q out out' (Err x)
 unfolding answer_of buffer_after
 refused-answers m q out out' x e f =
     let c = concluded-refused m q (refusal_numbers x) e in
@@ -198,7 +199,7 @@ pub accepted-answers : (m : Model) (q : Choice) (out out' : List ℕ) (judged : 
     → ((j : ℕ) → q.release j < 65536) → ((j : ℕ) → q.period j < 65536)
     → Standing m q out judged ends → first_break (run_rules m q) ≡ none
     → k ≡ length_needed m → out' ≡ put 0 (front_in m q out ends) out → figure_numbers f ≡ figures m (plan out')
-    → Answers (concluded m q) m q out out' (RunVerdict.Accepted (record { length = k; figures = f }))
+    → Answers (concluded m q) m q out out' (Ok (record { length = k; figures = f }))
 unfolding answer_of buffer_after
 accepted-answers m q out out' judged ends k f release period stands e ek eo ef =
     let c = concluded-succeeded m q e in
@@ -216,7 +217,7 @@ accepted-answers m q out out' judged ends k f release period stands e ek eo ef =
 
 pub room-answers : (m : Model) (q : Choice) (l : List ℕ) (x : Declared) → length l < length_needed m
     → refusal_numbers x ≡ record { number = 41; A = length_needed m; B = 0 }
-    → Answers (outcome m q (length l)) m q l l (RunVerdict.Refused x)
+    → Answers (outcome m q (length l)) m q l l (Err x)
 unfolding answer_of buffer_after
 room-answers m q l x h e =
     let o = outcome-short m q (length l) h in

@@ -5,7 +5,7 @@ use Rattle.schedule.specs.Model.{Model, Formed}
 use Rattle.schedule.specs.Choice.{Choice}
 use Rattle.schedule.specs.Answers.{length_needed, Outcome, answer_of, buffer_after}
 use Rattle.schedule.specs.Numbers.{run_numbers}
-use Rattle.schedule.specs.declared.RunVerdict.{RunVerdict}
+use Rattle.schedule.specs.Numbers.{RunVerdict}
 use Rattle.fields.specs.Put.{put}
 use Rattle.machine.specs.declared.Judged.{Judged}
 use Rattle.machine.specs.Played.{grid_bytes, Ended}

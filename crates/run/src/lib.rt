@@ -8,26 +8,25 @@ ghost use Rattle.schedule.specs.Answers.{concluded, outcome, run_answer, run_buf
 ghost use Rattle.schedule.specs.Numbers.{run_numbers};
 ghost use Rattle.run.specs.Outcome.{Standing, Answers};
 
-use machine::Judged;
-use records::Pass;
+use machine::{Judged, Played};
 use schedule::{Place, Refusal, RunRefusal, RunVerdict, Written};
 
 mod plan;
 
 // The answer once the grid stands in the buffer: "42 and 43 set the plan's length of bytes to 0", a success writes the rest
 // of the plan. The form rules have passed, so the machine was played, and what is not refused is a success.
-fn conclude(s: &[u8], q: &[u8], judged: Judged, ends: &[u32; 32], out: &mut [u8]) -> RunVerdict
-    requires { Standing (model s.now) (choice q.now) out.old judged ends.now }
+fn conclude(s: &[u8], q: &[u8], played: &Played, out: &mut [u8]) -> RunVerdict
+    requires { Standing (model s.now) (choice q.now) out.old played.now.judged played.now.ends }
     ensures { Answers (concluded (model s.now) (choice q.now)) (model s.now)
         (choice q.now) out.old out.new result }
 {
     let length = plan::needed(s);
-    if let Judged::Refused(x) = judged {
+    if let Judged::Refused(x) = played.judged {
         plan::clear(out, length as usize);
-        return RunVerdict::Refused(x);
+        return Err(x);
     }
-    plan::write_front(s, q, ends, out);
-    RunVerdict::Accepted(Written {
+    plan::write_front(s, q, &played.ends, out);
+    Ok(Written {
         length,
         figures: tables::figures::figures(s, out),
     })
@@ -42,12 +41,10 @@ fn attempt(s: &[u8], q: &[u8], out: &mut [u8]) -> RunVerdict
     let length = plan::needed(s);
     if out.len() < length as usize {
         let place = Place { a: length, b: 0 };
-        return RunVerdict::Refused(Refusal::Run(RunRefusal::Room, place));
+        return Err(Refusal::Run(RunRefusal::Room, place));
     }
     let played = plan::write_grid(s, q, out);
-    let ends = played.ends;
-    let judged = played.judged;
-    conclude(s, q, judged, &ends, out)
+    conclude(s, q, &played, out)
 }
 
 // The priority run on a model's and a choice's bytes, with the plan written into the lent buffer.
@@ -55,9 +52,6 @@ pub fn run(model: &[u8], choice: &[u8], out: &mut [u8]) -> RunVerdict
     ensures { (run_numbers result ≡ run_answer model.now choice.now (length out.old))
         × (out.new ≡ run_buffer model.now choice.now out.old) }
 {
-    let input = records::choice::read_both(model, choice);
-    if let Pass::Refused(x) = input {
-        return RunVerdict::Refused(x);
-    }
+    records::choice::read_both(model, choice)?;
     attempt(model, choice, out)
 }

@@ -16,6 +16,7 @@ use records::plan::Span;
 // ---- the grid
 
 // The length of the plan that a model asks for.
+#[tactic(auto, unfolding(records::specs::Rows::sizes_of, schedule::specs::Answers::length_needed))]
 pub(crate) fn needed(s: &[u8]) -> u32
     ensures { result ≡ length_needed (model s.now) }
 {
@@ -24,6 +25,7 @@ pub(crate) fn needed(s: &[u8]) -> u32
 }
 
 // Where the grid begins: behind the rows.
+#[tactic(auto, unfolding(records::specs::Rows::sizes_of))]
 pub(crate) fn grid_at(s: &[u8]) -> usize
     ensures { result ≡ grid_of (model s.now) }
 {
@@ -46,11 +48,7 @@ pub(crate) fn clear(out: &mut [u8], k: usize)
     requires { k ≤ length out.old }
     ensures { out.new ≡ replicate k 0 ++ drop k out.old }
 {
-    let mut i = 0;
-    while i < k {
-        out[i] = 0;
-        i += 1;
-    }
+    out[..k].fill(0);
 }
 
 // ---- the rows
@@ -62,10 +60,8 @@ fn write_threads(q: &[u8], n: u8, out: &mut [u8])
         ≡ put (plan_thread_row 0) (pair_rows n (choice q.now).release (choice q.now).period)
         out.old }
 {
-    let mut j: u8 = 0;
-    while j < n {
+    for j in 0..n {
         records::plan::put_thread_row(out, j, records::choice::timing_at(q, j));
-        j += 1;
     }
 }
 
@@ -88,17 +84,14 @@ fn write_activities(n: u8, m: u8, starts: &[u32; 32], ends: &[u32; 32], out: &mu
         ≡ put (plan_thread_row n) (pair_rows m (λ a. get_or starts.now a 0) (λ a. get_or ends.now a 0))
         out.old }
 {
-    let mut a: u8 = 0;
-    while a < m {
+    for a in 0..m {
         let row = activity_row(a as usize, starts, ends);
         records::plan::put_activity_row(out, n, Activity(a), row);
-        a += 1;
     }
 }
 
 // The activities of a word start at tick t.
 fn enter(word: u32, t: u32, starts: &mut [u32; 32])
-    requires { length starts.old ≡ 32 }
     ensures { Entered word t starts.old starts.new }
 {
     let mut rest = word;
@@ -110,25 +103,22 @@ fn enter(word: u32, t: u32, starts: &mut [u32; 32])
 }
 
 // "Start is the first active tick": where each activity's bit is first set in the words of the grid, h where nowhere.
-fn starts(grid: &[u8], h: usize) -> [u32; 32]
-    requires { h < 65536 }
+fn starts(grid: &[u8], h: u16) -> [u32; 32]
     ensures { result ≡ table 32 (start_in grid.now h) }
 {
     let mut firsts = [h as u32; 32];
     let mut seen: u32 = 0;
-    let mut t = 0;
-    while t < h {
-        let word = records::grid::word(grid, t);
+    for t in 0..h {
+        let word = records::grid::word(grid, t as usize);
         enter(word & !seen, t as u32, &mut firsts);
-        seen = seen | word;
-        t += 1;
+        seen |= word;
     }
     firsts
 }
 
 // The same of the grid that stands in a buffer, from a position on.
-fn starts_from(out: &[u8], at: usize, h: usize) -> [u32; 32]
-    requires { (at ≤ length out.now) × (h < 65536) }
+fn starts_from(out: &[u8], at: usize, h: u16) -> [u32; 32]
+    requires { at ≤ length out.now }
     ensures { result ≡ table 32 (start_in (drop at out.now) h) }
 {
     starts(&out[at..], h)
@@ -142,7 +132,7 @@ pub(crate) fn write_front(s: &[u8], q: &[u8], ends: &[u32; 32], out: &mut [u8])
         out.old }
 {
     let sizes = records::model::counts(s);
-    let firsts = starts_from(out, grid_at(s), sizes.horizon as usize);
+    let firsts = starts_from(out, grid_at(s), sizes.horizon);
     records::plan::put_head(out, sizes.threads, sizes.activities, sizes.horizon);
     write_threads(q, sizes.threads, out);
     write_activities(sizes.threads, sizes.activities, &firsts, ends, out);

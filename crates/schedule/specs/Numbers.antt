@@ -1,7 +1,7 @@
 -- "Where an answer is an enum, a definition sets out this paper's number and values for each of its cases": what each
 -- declared answer says, in the paper's numbers. crate laws, NumbersLaws, shows that no two answers say the same.
 -- Assumes nothing.
-use Rattle.std.specs.Prelude.{ℕ}
+use Rattle.std.specs.Prelude.{ℕ, Option, Some, None, Result, Ok, Err}
 use Rattle.schedule.specs.declared.RowRule.{RowRule}
 use Rattle.schedule.specs.declared.FormRefusal.{FormRefusal}
 use Rattle.schedule.specs.declared.ActivityRule.{ActivityRule}
@@ -11,14 +11,11 @@ use Rattle.schedule.specs.declared.RunRefusal.{RunRefusal}
 use Rattle.schedule.specs.declared.Refusal.{Refusal}
 use Rattle.schedule.specs.declared.Numbered.{Numbered}
 use Rattle.schedule.specs.declared.Figures.{Figures}
-use Rattle.schedule.specs.declared.Verdict.{Verdict}
 use Rattle.schedule.specs.declared.Written.{Written}
-use Rattle.schedule.specs.declared.RunVerdict.{RunVerdict}
-use Rattle.schedule.specs.declared.WordAt.{WordAt}
 use Rattle.schedule.specs.declared.WrapRefusal.{WrapRefusal}
-use Rattle.schedule.specs.declared.Standing.{Standing}
+use Rattle.schedule.specs.declared.WrapRefused.{WrapRefused}
+use Rattle.schedule.specs.declared.Side.{Side}
 use Rattle.schedule.specs.declared.Part.{Part}
-use Rattle.schedule.specs.declared.Chosen.{Chosen}
 use Rattle.schedule.specs.Rule
 use Rattle.schedule.specs.Answers
 use Rattle.schedule.specs.Answers.{Answer, accepted, refused}
@@ -78,20 +75,26 @@ figure_numbers f = record { usage = f.usage; capacity = f.capacity; makespan = f
 abbrev pub written_numbers : Written → Answers.Written
 written_numbers w = record { length = w.length; figures = figure_numbers w.figures }
 
--- what a check answers
+-- what a check answers: the figures, or why it refuses
+abbrev pub Verdict : Type 0
+Verdict = Result Figures Refusal
+
 abbrev pub verdict_numbers : Verdict → Answer Answers.Figures
-verdict_numbers (Verdict.Accepted f) = accepted (figure_numbers f)
-verdict_numbers (Verdict.Refused x) = refused (refusal_numbers x)
+verdict_numbers (Ok f) = accepted (figure_numbers f)
+verdict_numbers (Err x) = refused (refusal_numbers x)
 
 -- what the run answers, and the report of lateness
-abbrev pub run_numbers : RunVerdict → Answer Answers.Written
-run_numbers (RunVerdict.Accepted w) = accepted (written_numbers w)
-run_numbers (RunVerdict.Refused x) = refused (refusal_numbers x)
+abbrev pub RunVerdict : Type 0
+RunVerdict = Result Written Refusal
 
--- what a held view gives at a tick
-abbrev pub word_numbers : WordAt → WordOrPast
-word_numbers (WordAt.Word w) = word w
-word_numbers WordAt.Past = past
+abbrev pub run_numbers : RunVerdict → Answer Answers.Written
+run_numbers (Ok w) = accepted (written_numbers w)
+run_numbers (Err x) = refused (refusal_numbers x)
+
+-- what a held view gives at a tick: "the word at a tick, or past for a tick ≥ H"
+abbrev pub word_numbers : Option ℕ → WordOrPast
+word_numbers (Some w) = word w
+word_numbers None = past
 
 abbrev pub wrap_number : WrapRefusal → ℕ
 wrap_number WrapRefusal.Wrapper = 54
@@ -102,16 +105,25 @@ wrap_number WrapRefusal.Copy = 56
 abbrev pub wrap_numbers : WrapRefusal → ℕ → Rule.Refusal
 wrap_numbers why k = record { number = wrap_number why; A = k; B = 0 }
 
+abbrev pub wrap_refusal : WrapRefused → Rule.Refusal
+wrap_refusal x = wrap_numbers x.why x.index
+
 -- which of two wrapped records stands, 0 for the first and 1 for the second
+abbrev pub Standing : Type 0
+Standing = Result Side WrapRefused
+
 abbrev pub standing_numbers : Standing → Answer ℕ
-standing_numbers Standing.First = accepted 0
-standing_numbers Standing.Second = accepted 1
-standing_numbers (Standing.Refused why k) = refused (wrap_numbers why k)
+standing_numbers (Ok Side.First) = accepted 0
+standing_numbers (Ok Side.Second) = accepted 1
+standing_numbers (Err x) = refused (wrap_refusal x)
 
 abbrev pub part_numbers : Part → Exchange.Part
 part_numbers x = record { index = x.index; offset = x.offset; length = x.length }
 
 -- which record of a file is chosen
+abbrev pub Chosen : Type 0
+Chosen = Result Part WrapRefused
+
 abbrev pub chosen_numbers : Chosen → Answer Exchange.Part
-chosen_numbers (Chosen.Record x) = accepted (part_numbers x)
-chosen_numbers (Chosen.Refused why k) = refused (wrap_numbers why k)
+chosen_numbers (Ok x) = accepted (part_numbers x)
+chosen_numbers (Err x) = refused (wrap_refusal x)

@@ -132,12 +132,8 @@ pub struct Figures {
     pub makespan: u32,
 }
 
-// What a check answers.
-#[derive(Clone, Copy)]
-pub enum Verdict {
-    Accepted(Figures),
-    Refused(Refusal),
-}
+// What a check answers: the figures, or why it refuses.
+pub type Verdict = Result<Figures, Refusal>;
 
 // "It answers the length, usage, c times H, and makespan"
 #[derive(Clone, Copy)]
@@ -147,18 +143,7 @@ pub struct Written {
 }
 
 // What the run answers, and the report of lateness.
-#[derive(Clone, Copy)]
-pub enum RunVerdict {
-    Accepted(Written),
-    Refused(Refusal),
-}
-
-// What a held view gives: "the word at a tick, or past for a tick ≥ H"
-#[derive(Clone, Copy)]
-pub enum WordAt {
-    Word(u32),
-    Past,
-}
+pub type RunVerdict = Result<Written, Refusal>;
 
 // Refusals 54 to 56, of wrapped records (02).
 #[derive(Clone, Copy)]
@@ -171,13 +156,22 @@ pub enum WrapRefusal {
     Copy,
 }
 
-// Which of two wrapped records stands; a refusal has A, the record tried, from 0.
+// Why wrapped records are refused, and A, the record tried, from 0.
 #[derive(Clone, Copy)]
-pub enum Standing {
+pub struct WrapRefused {
+    pub why: WrapRefusal,
+    pub index: usize,
+}
+
+// One of two wrapped records.
+#[derive(Clone, Copy)]
+pub enum Side {
     First,
     Second,
-    Refused(WrapRefusal, usize),
 }
+
+// Which of two wrapped records stands.
+pub type Standing = Result<Side, WrapRefused>;
 
 // A record as a part of the caller's bytes: its number, from 0, where its first byte stands, and how many bytes it has.
 #[derive(Clone, Copy)]
@@ -187,9 +181,5 @@ pub struct Part {
     pub length: usize,
 }
 
-// Which record of a file is chosen, and where it lies; a refusal has A, the record tried, from 0.
-#[derive(Clone, Copy)]
-pub enum Chosen {
-    Record(Part),
-    Refused(WrapRefusal, usize),
-}
+// Which record of a file is chosen, and where it lies.
+pub type Chosen = Result<Part, WrapRefused>;

@@ -1,8 +1,6 @@
--- A front is the first bytes; the cut lies within the bytes, and the parts before and behind it are the two records.
+-- The cut lies within the bytes, and the parts before and behind it are the two records.
 -- Assumes nothing.
-use Prim.Native.Nat.{ℕ, ◌-◌, ◌≤◌, min}
-use native.Mathlib.Decide.{dec_le}
-use native.Mathlib.Nat.{min-eq_left, min-eq_right}
+use Prim.Native.Nat.{ℕ, ◌-◌, ◌≤◌}
 use native.Mathlib.Omega.{arith}
 use mathlib.Core.Bool.{Bool, true, false, cond}
 use mathlib.Core.List.{List, []}
@@ -14,17 +12,6 @@ use Rattle.laws.proofs.Tests.{T_and}
 use Rattle.schedule.specs.Fields.{field}
 use Rattle.schedule.specs.Streams.{splits, first_record, second_record}
 use Rattle.streams.specs.Cut.{cut}
-
--- no more than there are
-pub take-least : (n : ℕ) (s : List ℕ) → take (min n (length s)) s ≡ take n s
-take-least n s =
-    elim (dec_le n (length s)) [
-      | yes l ↦ ap (λ (i : ℕ). take i s) (min-eq_left l)
-      | no l ↦
-          ap (λ (i : ℕ). take i s) (min-eq_right {m = n} (omega arith))
-          ∙ take-length s
-          ∙ sym (take_all n s (omega arith))
-    ]
 
 either_le : (b : Bool) (k n : ℕ) → (T b → k ≤ n) → cond b k n ≤ n
 either_le true k n h = h tt

@@ -3,24 +3,16 @@
 // Otherwise everything is the first and the second is empty". Nothing is copied.
 #![tactic(auto)]
 
-ghost use Rattle.std.specs.Prelude.{◌≡◌, min, length, take};
+ghost use Rattle.std.specs.Prelude.{◌≡◌, length, take};
 ghost use Rattle.schedule.specs.Lent.{LiesAt};
 ghost use Rattle.schedule.specs.Streams.{first_record, second_record};
 ghost use Rattle.streams.specs.Cut;
-
-// The smaller of two numbers.
-fn smaller(x: usize, y: usize) -> usize
-    ensures { result ≡ min x y }
-{
-    if x <= y { x } else { y }
-}
 
 // The first n bytes, or all where there are fewer.
 pub fn front(s: &[u8], n: usize) -> &[u8]
     ensures { (result.now ≡ take n s.now) × LiesAt s.entry 0 result }
 {
-    let end = smaller(n, s.len());
-    &s[0..end]
+    &s[..n.min(s.len())]
 }
 
 // Where the first record ends. L may be 0 to 3.
@@ -41,14 +33,12 @@ fn cut(input: &[u8]) -> usize
 pub fn first_record(input: &[u8]) -> &[u8]
     ensures { (result.now ≡ first_record input.now) × LiesAt input.entry 0 result }
 {
-    let end = cut(input);
-    &input[0..end]
+    &input[..cut(input)]
 }
 
 pub fn second_record(input: &[u8]) -> &[u8]
     ensures { (result.now ≡ second_record input.now)
         × LiesAt input.entry (length (first_record input.now)) result }
 {
-    let start = cut(input);
-    &input[start..]
+    &input[cut(input)..]
 }

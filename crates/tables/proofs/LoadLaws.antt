@@ -10,7 +10,7 @@ use mathlib.Core.List.{List}
 use mathlib.Core.Path.{◌≡◌, refl, sym, subst, ap, ◌∙◌}
 use lib.Bits.{bit_and}
 use lib.Dec.{T, ltb, ltb→lt}
-use lib.ListN.{get_or}
+use lib.ListN.{length, get_or}
 use lib.Pow.{pow_mono}
 use borrow.Author.Tests.{lt-ltb, le-ltb}
 use Rattle.schedule.specs.Bounded.{bit, total, greatest, lowest, ones, table, word_of}
@@ -19,7 +19,7 @@ use Rattle.schedule.specs.Checks.{cores_of}
 use Rattle.laws.proofs.Tests.{T_and}
 use Rattle.laws.proofs.Counting.{T_false, count_ext}
 use Rattle.laws.proofs.Lowest.{lowest_is}
-use Rattle.laws.proofs.MachineLaws.{getD_table}
+use Rattle.laws.proofs.MachineLaws.{length-table, getD_table}
 use Rattle.laws.proofs.Steps.{ones-few, total-start}
 use Rattle.laws.proofs.Sums.{greatest_each, greatest_ext, total_ext, total_bound, total_stops, total_exchange, total_counted}
 use Rattle.laws.proofs.Words.{bit_high}
@@ -27,7 +27,7 @@ use Rattle.laws.proofs.WordLaws.{bit-bit_and, bit-zero, bit_past, wordOf_bits, z
 use Rattle.tables.specs.Columns.{by_activity}
 use Rattle.tables.specs.declared.loads.Widths.{Widths}
 use Rattle.tables.specs.Loads.{plane_of, depth_of, widths_of, width_in, load_from}
-use Rattle.tables.proofs.TableLaws.{FilledTo, table-whole, by_at, among_lt, bit-among, among_first}
+use Rattle.tables.proofs.TableLaws.{table-whole, by_at, among_lt, bit-among, among_first}
 
 -- ---- what a digit is worth
 
@@ -169,12 +169,15 @@ module _ (m : Model) (narrow : (a : ℕ) → m.width a < 256) where
       (ap (λ (k : List ℕ). get_or k a 0) w ∙ by_at m m.width a (omega arith) (omega arith)))
 
   -- the planes that the widest has are all that are not empty
-  pub planes_whole : (depth : ℕ) (planes : List ℕ) → depth ≡ depth_of m → FilledTo 8 depth (plane_of m) planes
-      → planes ≡ table 8 (plane_of m)
+  pub planes_whole : (depth : ℕ) (planes : List ℕ) → depth ≡ depth_of m
+      → planes ≡ table 8 (λ j. cond (ltb j depth) (plane_of m j) 0) → planes ≡ table 8 (plane_of m)
   planes_whole depth planes e h =
-      table-whole 8 (plane_of m) planes h.sized (λ j l. elim (dec_lt j depth) [
-        | yes k ↦ h.filled j k
-        | no k ↦ h.beyond j (omega arith) ∙ sym (plane_empty j (omega arith))
+      table-whole 8 (plane_of m) planes (ap length h ∙ length-table 8 _) (λ j l.
+      ap (λ (t : List ℕ). get_or t j 0) h
+      ∙ getD_table 0 8 _ j l
+      ∙ elim (dec_lt j depth) [
+        | yes k ↦ ap (λ (t : Bool). cond t (plane_of m j) 0) (lt-ltb j depth k)
+        | no k ↦ ap (λ (t : Bool). cond t (plane_of m j) 0) (le-ltb j depth (omega arith)) ∙ sym (plane_empty j (omega arith))
       ])
 
 -- at most 32 ones for each of at most 8 digits

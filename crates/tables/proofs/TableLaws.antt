@@ -98,10 +98,24 @@ filled_next f a v l k h e = record {
   beyond = λ b kb. get_or-set_other l a b v 0 (omega arith) ∙ h.beyond b (omega arith);
 }
 
--- all entries that there is room for are filled
-pub filled-whole : (m : Model) (n : ℕ) (f : ℕ → ℕ) (l : List ℕ) → n ≡ min m.activities 32 → Filled n f l → l ≡ by_activity m f
-filled-whole m n f l e h =
-    table_by m f l h.sized (λ a k here. h.filled a (omega arith)) (λ a k here. h.beyond a (omega arith))
+-- what is filled so far, as a table
+pub filled-table : {size : ℕ} (n : ℕ) (f : ℕ → ℕ) (l : List ℕ) → FilledTo size n f l → l ≡ table size (λ a. cond (ltb a n) (f a) 0)
+filled-table {size} n f l h =
+    table-whole size _ l h.sized (λ a k. elim (dec_lt a n) [
+      | yes la ↦ h.filled a la ∙ sym (ap (λ (t : Bool). cond t (f a) 0) (lt-ltb a n la))
+      | no la ↦ h.beyond a (omega arith) ∙ sym (ap (λ (t : Bool). cond t (f a) 0) (le-ltb a n (omega arith)))
+    ])
+
+-- the table with the entries that there is room for
+pub by_first : (m : Model) (n : ℕ) (f : ℕ → ℕ) (l : List ℕ) → n ≡ min m.activities 32
+    → l ≡ table 32 (λ a. cond (ltb a n) (f a) 0) → l ≡ by_activity m f
+by_first m n f l e h =
+    table_by m f l (ap length h ∙ length-table 32 _)
+    (λ a la k. entry a k ∙ ap (λ (t : Bool). cond t (f a) 0) (lt-ltb a n (omega arith)))
+    (λ a la k. entry a k ∙ ap (λ (t : Bool). cond t (f a) 0) (le-ltb a n (omega arith)))
+  where
+    entry : (a : ℕ) → a < 32 → get_or l a 0 ≡ cond (ltb a n) (f a) 0
+    entry a k = ap (λ (t : List ℕ). get_or t a 0) h ∙ getD_table 0 32 _ a k
 
 -- ---- words of activities
 

@@ -4,7 +4,7 @@ ghost use Rattle.schedule.specs.Model.{model};
 ghost use Rattle.tables.specs.Columns.{among_activities, entry_of, column_of};
 ghost use Rattle.schedule.specs.Bounded.{bit};
 
-use crate::ByActivity;
+use crate::{ByActivity, each};
 use records::model::{Activity, owner};
 
 // What a column holds: of the model, or of the second record, whose bytes are read as the choice's or the plan's that the name
@@ -30,15 +30,7 @@ pub enum Column {
 pub(crate) fn rows(s: &[u8]) -> u8
     ensures { result ≡ min (model s.now).activities 32 }
 {
-    let sizes = records::model::counts(s);
-    let n = sizes.activities;
-    if n <= 32 { n } else { 32 }
-}
-
-fn wide(x: u16) -> u32
-    ensures { result ≡ x }
-{
-    x as u32
+    records::model::counts(s).activities.min(32)
 }
 
 // The bits of a mask that are activities of the model.
@@ -49,21 +41,24 @@ fn among(s: &[u8], mask: u32) -> u32
     mask & bits::below(sizes.activities as u32)
 }
 
-// A column's entry for activity a: "priority is looked up by an activity's thread", and so are release and period.
+// A column's entry for activity a: "priority is looked up by an activity's thread", and so are release and period. Which column
+// it is stays a value, since a public function takes it.
 fn entry(which: Column, s: &[u8], second: &[u8], a: Activity) -> u32
     ensures { result ≡ entry_of which s.now second.now a.0 }
 {
     match which {
-        Column::Delay => wide(records::model::activity_row(s, a).delay),
+        Column::Delay => u32::from(records::model::activity_row(s, a).delay),
         Column::Temporal => among(s, records::model::activity_row(s, a).temporal_mask),
         Column::ByData => among(s, records::model::activity_row(s, a).data_mask),
-        Column::Width => records::model::width(s, a) as u32,
-        Column::Priority => wide(records::model::thread_row(s, owner(s, a)).priority),
-        Column::ChosenRelease => wide(records::choice::thread_row(second, owner(s, a)).release),
-        Column::ChosenPeriod => wide(records::choice::thread_row(second, owner(s, a)).period),
-        Column::ChosenDuration => wide(records::choice::duration(second, a)),
-        Column::PlanStart => wide(records::plan::activity_row(second, a).start),
-        Column::PlanEnd => wide(records::plan::activity_row(second, a).end),
+        Column::Width => u32::from(records::model::width(s, a)),
+        Column::Priority => u32::from(records::model::thread_row(s, owner(s, a)).priority),
+        Column::ChosenRelease => u32::from(
+            records::choice::thread_row(second, owner(s, a)).release,
+        ),
+        Column::ChosenPeriod => u32::from(records::choice::thread_row(second, owner(s, a)).period),
+        Column::ChosenDuration => u32::from(records::choice::duration(second, a)),
+        Column::PlanStart => u32::from(records::plan::activity_row(second, a).start),
+        Column::PlanEnd => u32::from(records::plan::activity_row(second, a).end),
     }
 }
 
@@ -71,12 +66,5 @@ fn entry(which: Column, s: &[u8], second: &[u8], a: Activity) -> u32
 pub fn table(which: Column, s: &[u8], second: &[u8]) -> ByActivity
     ensures { result ≡ column_of which s.now second.now }
 {
-    let n = rows(s);
-    let mut entries = [0u32; 32];
-    let mut number: u8 = 0;
-    while number < n {
-        entries[number as usize] = entry(which, s, second, Activity(number));
-        number += 1;
-    }
-    entries
+    each::table(rows(s), |a| entry(which, s, second, Activity(a)))
 }

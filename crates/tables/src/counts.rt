@@ -8,8 +8,8 @@ ghost use Rattle.tables.specs.Counts.{Tallied};
 
 use crate::ByActivity;
 
-// One more for each activity of a word.
-fn tally(word: u32, counts: &mut [u32; 32])
+// One more for each activity of a word. The loop walks over the bits that are set, and counts no index.
+fn tally(word: u32, counts: &mut ByActivity)
     requires { (length counts.old ≡ 32) × ((a : ℕ) → get_or counts.old a 0 < 65536) }
     ensures { Tallied word counts.old counts.new }
 {
@@ -29,10 +29,8 @@ pub fn counts(s: &[u8], r: &[u8]) -> ByActivity
     let horizon = sizes.horizon;
     let grid = records::plan::words(r);
     let mut counted = [0u32; 32];
-    let mut t: u16 = 0;
-    while t < horizon {
+    for t in 0..horizon {
         tally(records::grid::word(grid, t as usize), &mut counted);
-        t += 1;
     }
     counted
 }

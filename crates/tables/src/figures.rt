@@ -8,37 +8,25 @@ ghost use Rattle.schedule.specs.Numbers.{figure_numbers};
 ghost use Rattle.tables.specs.Releases.{releases_of};
 ghost use Rattle.tables.specs.Loads.{load_from};
 
-use crate::loads;
 use crate::loads::Widths;
-use numbers::{larger, less, smaller};
+use crate::{each, loads};
 use records::model::Activity;
 use schedule::Figures;
 
-// The cores that a word's activities take, where those of the last word are known: most ticks have the word of the one before.
-fn load_after(last: u32, load: u32, word: u32, widths: Widths) -> u32
-    requires { load ≡ load_from widths last }
-    ensures { result ≡ load_from widths word }
-{
-    if word == last {
-        return load;
-    }
-    loads::load(widths, word)
-}
-
-// The core ticks, counted from the words of a grid.
+// The core ticks, counted from the words of a grid. Most ticks have the word of the one before, whose load is kept.
 fn usage(grid: &[u8], horizon: u16, widths: Widths) -> u32
     ensures { result ≡ total horizon (λ t. load_from widths (word_in grid.now t)) }
 {
     let mut sum: u32 = 0;
     let mut last: u32 = 0;
     let mut load = loads::load(widths, last);
-    let mut t: u16 = 0;
-    while t < horizon {
+    for t in 0..horizon {
         let word = records::grid::word(grid, t as usize);
-        load = load_after(last, load, word, widths);
+        if word != last {
+            load = loads::load(widths, word);
+            last = word;
+        }
         sum += load;
-        last = word;
-        t += 1;
     }
     sum
 }
@@ -47,21 +35,14 @@ fn usage(grid: &[u8], horizon: u16, widths: Widths) -> u32
 fn end_of(r: &[u8], a: Activity) -> u32
     ensures { result ≡ (plan r.now).end a.0 }
 {
-    let row = records::plan::activity_row(r, a);
-    row.end as u32
+    u32::from(records::plan::activity_row(r, a).end)
 }
 
 // The greatest end.
 fn latest_end(r: &[u8], n: u8) -> u32
     ensures { result ≡ greatest n (plan r.now).end }
 {
-    let mut latest: u32 = 0;
-    let mut a: u8 = 0;
-    while a < n {
-        latest = larger(latest, end_of(r, Activity(a)));
-        a += 1;
-    }
-    latest
+    each::greatest(n, |a| end_of(r, Activity(a)))
 }
 
 // The second record, whose rows of release and period are read: a choice, or a plan.
@@ -71,19 +52,13 @@ pub enum Second {
     Plan,
 }
 
-// The release of thread j.
+// The release of thread j. Which record it is stays a value, since a public function takes it.
 fn release_of(whose: Second, r: &[u8], j: u8) -> u32
     ensures { result ≡ releases_of whose r.now j }
 {
     match whose {
-        Second::Choice => {
-            let row = records::choice::timing_at(r, j);
-            row.release as u32
-        }
-        Second::Plan => {
-            let row = records::plan::timing_at(r, j);
-            row.release as u32
-        }
+        Second::Choice => u32::from(records::choice::timing_at(r, j).release),
+        Second::Plan => u32::from(records::plan::timing_at(r, j).release),
     }
 }
 
@@ -95,10 +70,8 @@ pub fn least_release(whose: Second, r: &[u8], n: u8) -> u32
         return 0;
     }
     let mut first = release_of(whose, r, 0);
-    let mut j: u8 = 1;
-    while j < n {
-        first = smaller(first, release_of(whose, r, j));
-        j += 1;
+    for j in 1..n {
+        first = first.min(release_of(whose, r, j));
     }
     first
 }
@@ -116,6 +89,6 @@ pub fn figures(s: &[u8], r: &[u8]) -> Figures
     Figures {
         usage: usage(records::plan::words(r), sizes.horizon, loads::widths_of(s)),
         capacity,
-        makespan: less(latest, first),
+        makespan: latest.saturating_sub(first),
     }
 }

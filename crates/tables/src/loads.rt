@@ -5,61 +5,37 @@ ghost use Rattle.schedule.specs.Bounded.{bit, greatest, lowest, word_of};
 ghost use Rattle.schedule.specs.Model.{model};
 ghost use Rattle.tables.specs.Loads.{widths_of, load_from};
 
-use crate::columns;
 use crate::columns::Column;
-use numbers::{larger, smaller};
+use crate::{ByActivity, columns, each};
 
 // The widths of a model's activities by binary digits: plane j holds those whose width has the digit worth 2 to the power j.
-// The planes from `depth` on are empty.
+// The planes from `depth` on are empty: nothing is allocated, so there is always room for eight.
 #[derive(Clone, Copy)]
 pub struct Widths {
     pub planes: [u32; 8],
     pub depth: u32,
 }
 
-// The greatest of the first n entries of a column of widths.
-fn widest(n: u8, column: &[u32; 32]) -> u32
-    requires { n ≤ 32 }
-    ensures { result ≡ greatest n (λ a. get_or column.now a 0) }
-{
-    let mut most: u32 = 0;
-    let mut a: u8 = 0;
-    while a < n {
-        most = larger(most, column[a as usize]);
-        a += 1;
-    }
-    most
-}
-
 // How many binary digits a number below 256 has.
-fn digits(x: u32) -> u32
+fn digits(x: u32) -> u8
     ensures { result ≡ lowest 8 (λ d. ltb x (2 ^ d)) }
 {
-    let mut d: u32 = 0;
     let mut power: u32 = 1;
-    while d < 8 {
+    for d in 0..8 {
         if x < power {
             return d;
         }
         power = 2 * power;
-        d += 1;
     }
     8
 }
 
 // The activities whose width has digit j.
-fn plane(n: u8, column: &[u32; 32], j: u32) -> u32
+fn plane(n: u8, column: &ByActivity, j: u8) -> u32
     requires { n ≤ 32 }
     ensures { result ≡ word_of n (λ a. bit (get_or column.now a 0) j) }
 {
-    let mut word: u32 = 0;
-    let mut a: u8 = 0;
-    while a < n {
-        let yes = bits::has(column[a as usize], j);
-        word = bits::mark(word, a as u32, yes);
-        a += 1;
-    }
-    word
+    each::word(n, |a| bits::has(column[a as usize], j as u32))
 }
 
 // The widths of a model's activities.
@@ -69,29 +45,23 @@ pub fn widths_of(s: &[u8]) -> Widths
     let n = columns::rows(s);
     // a column of the model: the second record plays no part
     let column = columns::table(Column::Width, s, s);
-    let depth = digits(widest(n, &column));
-    let mut planes = [0u32; 8];
-    let mut j: u32 = 0;
-    while j < depth {
-        planes[j as usize] = plane(n, &column, j);
-        j += 1;
+    let depth = digits(each::greatest(n, |a| column[a as usize]));
+    Widths {
+        planes: each::table(depth, |j| plane(n, &column, j)),
+        depth: depth as u32,
     }
-    Widths { planes, depth }
 }
 
 // "the sum of active widths"
 pub fn load(widths: Widths, word: u32) -> u32
     ensures { result ≡ load_from widths word }
 {
-    let planes = widths.planes;
-    let depth = smaller(widths.depth, 8);
+    let depth = widths.depth.min(8);
     let mut sum: u32 = 0;
     let mut worth: u32 = 1;
-    let mut j: u32 = 0;
-    while j < depth {
-        sum += bits::ones(word & planes[j as usize]) * worth;
+    for plane in &widths.planes[..depth as usize] {
+        sum += bits::ones(word & *plane) * worth;
         worth = 2 * worth;
-        j += 1;
     }
     sum
 }

@@ -3,17 +3,19 @@
 -- Assumes nothing.
 use Prim.Native.Nat.{ℕ, suc, ◌+◌, ◌-◌, ◌*◌, ◌/◌, ◌%◌, ◌^◌, ◌≤◌, ◌<◌}
 use native.Mathlib.Nat.{zero-add, add-zero, add_assoc, add-suc, suc-add}
-use native.Mathlib.Numerals.{add-one}
 use native.Mathlib.Omega.{arith}
-use mathlib.Core.List.{List, [], ◌∷◌, ◌++◌}
+use mathlib.Core.List.{List, [], ◌∷◌, ◌++◌, append_assoc}
 use mathlib.Core.Path.{◌≡◌, refl, sym, ap, ◌∙◌}
-use lib.ListN.{length, get_or, set, drop, length-append, drop_of_length-le}
-use lib.Seq.{sets, sets-eq, drop-cons, set_comm}
+use lib.ListN.{length, set, take, drop, length-append}
+use lib.Seq.{sets, sets-eq, length-sets, set_comm}
+use borrow.Rule.Slice.PartMut.{put_mid, Post-is}
 use borrow.Author.Tests.{le-leb, lt-leb}
 use Rattle.schedule.specs.Lines.{decimal, hex, hex_digit}
 use Rattle.laws.proofs.LineLengths.{length_large}
 use Rattle.text.specs.Printed.{leaves, printed}
+use Rattle.text.specs.declared.Writer.{Writer}
 use Rattle.text.specs.Appended.{Appended}
+use Rattle.text.specs.Wrote.{Wrote}
 use Rattle.text.proofs.DigitLaws.{first_digits, first_next, first-all, decimal_one, decimal-more}
 
 -- ---- stores
@@ -49,17 +51,26 @@ appended_both {at} {a} {b} {old} p q = record {
   stored = q.stored ∙ (simp (p.stored, p.moved)) ∙ sym (sets_append a b old at);
 }
 
--- ---- s stored from the first byte to the last, of which i are passed
+-- a part of the buffer is written over
+pub appended_copy : (at : ℕ) (s old : List ℕ) → at + length s ≤ length old
+    → Appended at s old (at + length s) (put_mid at (at + length s - at) old s)
+appended_copy at s old h = record {
+  moved = refl;
+  stored = ap (λ (l : List ℕ). take at old ++ (s ++ l)) (Post-is at (at + length s) old (omega arith))
+      ∙ sym (append_assoc (take at old) s (drop (at + length s) old))
+      ∙ sym (sets-eq s old at h);
+}
 
-module _ (s out : List ℕ) (at i : ℕ) where
-  pub copy_next : i < length s
-      → sets (set out (at + i) (get_or s i 0)) (at + (i + 1)) (drop (i + 1) s) ≡ sets out (at + i) (drop i s)
-  copy_next h = rw (drop-cons s i 0 h, add-one, add-suc)
+-- ---- text written behind what is written
 
-  pub copy_done : (old : List ℕ) → i ≤ length s → length s ≤ i → sets out (at + i) (drop i s) ≡ sets old at s
-      → Appended at s old (at + i) out
-  copy_done old h l e =
-      record { moved = omega arith; stored = rw (drop_of_length-le s {i = i} l) at e }
+pub wrote_none : (w : Writer) → Wrote w [] w
+wrote_none w = record { same = refl; appended = appended_none w.at w.out.now }
+
+pub wrote_both : {w w' w'' : Writer} {a b : List ℕ} → Wrote w a w' → Wrote w' b w'' → Wrote w (a ++ b) w''
+wrote_both p q = record { same = q.same ∙ p.same; appended = appended_both p.appended q.appended }
+
+pub wrote_length : {w w' : Writer} {a : List ℕ} → Wrote w a w' → length w'.out.now ≡ length w.out.now
+wrote_length {w} {a} p = ap length p.appended.stored ∙ length-sets w.out.now w.at a
 
 -- ---- a word's digits stored from the first to the last, of which i are passed
 
@@ -104,6 +115,14 @@ pub printed-whole : {text a b old : List ℕ} {next end : ℕ} {mid new : List �
     → leaves end new ≡ printed text old
 printed-whole {text} {a} {b} parts p q h =
     rw parts (appended_printed (a ++ b) (omega (arith, length-append a b)) (appended_both p q))
+
+-- written by a writer that begins at 0, whose buffer is handed back at the end
+pub printed_written : {text a b new : List ℕ} {w w' w'' : Writer} → text ≡ a ++ b → w.at ≡ 0 → Wrote w a w' → Wrote w' b w''
+    → length a + length b ≤ length w.out.now → (w.out.ghost_name ≡ w''.out.ghost_name → new ≡ w''.out.now)
+    → leaves w''.at new ≡ printed text w.out.now
+printed_written {w'} {w''} parts z p q h last =
+    let begins = rw z at p.appended in
+    rw (last (sym (q.same ∙ p.same))) (printed-whole parts begins q.appended h)
 
 pub printed-nothing : {text : List ℕ} (a b old : List ℕ) → text ≡ a ++ b → length old < length a + length b
     → leaves 0 old ≡ printed text old

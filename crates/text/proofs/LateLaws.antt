@@ -14,6 +14,7 @@ use Rattle.schedule.specs.Report.{is_dash, fills}
 use Rattle.schedule.specs.Lines.{decimal, shown, last_line, signed, row_text, late_line, late_lines}
 use Rattle.text.specs.declared.Said.{Said}
 use Rattle.text.specs.declared.late.Row.{Row}
+use Rattle.text.specs.declared.late.Row.TheVariants.{Dash, Figure}
 use Rattle.text.specs.Said.{run_said, run_name, verdict_word, line}
 use Rattle.text.specs.Appended.{number}
 use Rattle.text.specs.Rows.{lines_of, late_text, row_of, minus, row_end, row_line}
@@ -21,17 +22,17 @@ use Rattle.text.proofs.TextLaws.{length-number, chain_next}
 
 -- ---- a row
 
-pub dash-end : (r : Row) → r.dash ≡ true → row_end r ≡ 45 ∷ 10 ∷ []
+pub dash-end : {r : Row} → r ≡ Dash → row_end r ≡ 45 ∷ 10 ∷ []
 unfolding row_end
-dash-end r h = simp h
+dash-end e = rw (e, row_end)
 
-pub figure-end : (r : Row) → r.dash ≡ false → row_end r ≡ minus r.negative ++ number r.size 10
-unfolding row_end
-figure-end r h = simp h
+module _ {r : Row} {negative : Bool} {size : ℕ} (e : r ≡ Figure negative size) where
+  pub figure-end : row_end r ≡ minus negative ++ number size 10
+  unfolding row_end
+  figure-end = rw (e, row_end)
 
-pub length-figure : (r : Row) → r.dash ≡ false
-    → length (row_end r) ≡ length (minus r.negative) + length (number r.size 10)
-length-figure r h = ap length (figure-end r h) ∙ length-append (minus r.negative) (number r.size 10)
+  pub length-figure : length (row_end r) ≡ length (minus negative) + length (number size 10)
+  length-figure = ap length figure-end ∙ length-append (minus negative) (number size 10)
 
 -- ---- lines
 

@@ -5,6 +5,7 @@ use Rattle.schedule.specs.Answers.{Answer, Written}
 use Rattle.schedule.specs.Report.{is_dash, fills}
 use Rattle.schedule.specs.Lines.{late_line}
 use Rattle.text.specs.declared.late.Row.{Row}
+use Rattle.text.specs.declared.late.Row.TheVariants.{Dash, Figure}
 use Rattle.text.specs.Appended.{number}
 
 -- how many activities have a line: all n of them, where the report has filled its rows
@@ -21,7 +22,7 @@ is_negative (pos n) = false
 is_negative (negsuc n) = true
 
 abbrev pub row_of : ℤ → Row
-row_of z = record { dash = is_dash z; negative = is_negative z; size = nat_abs z }
+row_of z = cond (is_dash z) Dash (Figure (is_negative z) (nat_abs z))
 
 -- a minus sign, or none
 unfoldable pub minus : Bool → List ℕ
@@ -30,7 +31,8 @@ minus false = []
 
 -- a row and the end of its line, and the whole line
 unfoldable pub row_end : Row → List ℕ
-row_end r = cond r.dash (45 ∷ 10 ∷ []) (minus r.negative ++ number r.size 10)
+row_end Dash = 45 ∷ 10 ∷ []
+row_end (Figure negative size) = minus negative ++ number size 10
 
 unfoldable pub row_line : ℕ → Row → List ℕ
 row_line a r = number a 32 ++ row_end r

@@ -9,6 +9,7 @@ ghost use Rattle.schedule.specs.Numbers.{refusal_numbers, verdict_numbers, run_n
 ghost use Rattle.schedule.specs.Lines.{decimal, hex, hex_digit, three, check_lines, tick_line, run_lines, late_lines};
 ghost use Rattle.text.specs.Printed.{leaves, printed};
 ghost use Rattle.text.specs.Said.{refusal_said, verdict_said, run_said, verdict_word, line};
+ghost use Rattle.text.specs.Wrote.{HasRoom, Wrote};
 ghost use Rattle.text.specs.Appended.{Appended, number, ticks_of, word_of, tick_text, tick_length};
 
 use numbers::{hex_digit, refusal_numbers};
@@ -27,6 +28,7 @@ fn word_at(plan: &[u8], t: u32) -> u32
 // ---- what is said of an answer
 
 // "`accepted` and the three figures, or `refused` and number, A, B": which of them, and the three numbers.
+// A line is the same three numbers either way, so two variants would be no plainer.
 #[derive(Clone, Copy)]
 struct Said {
     passed: bool,
@@ -51,13 +53,13 @@ fn verdict_said(v: Verdict) -> Said
     ensures { result ≡ verdict_said (verdict_numbers v) }
 {
     match v {
-        Verdict::Accepted(f) => Said {
+        Ok(f) => Said {
             passed: true,
             a: f.usage,
             b: f.capacity,
             c: f.makespan,
         },
-        Verdict::Refused(x) => refusal_said(x),
+        Err(x) => refusal_said(x),
     }
 }
 
@@ -65,7 +67,7 @@ fn run_said(v: RunVerdict) -> Said
     ensures { result ≡ run_said (run_numbers v) }
 {
     match v {
-        RunVerdict::Accepted(w) => {
+        Ok(w) => {
             let f = w.figures;
             Said {
                 passed: true,
@@ -74,8 +76,16 @@ fn run_said(v: RunVerdict) -> Said
                 c: f.makespan,
             }
         }
-        RunVerdict::Refused(x) => refusal_said(x),
+        Err(x) => refusal_said(x),
     }
+}
+
+// ` accepted ` or ` refused `.
+fn verdict_word(passed: bool) -> &'static [u8]
+    ensures word { result.now ≡ verdict_word passed }
+    ensures within { length result.now ≤ 10 }
+{
+    if passed { b" accepted " } else { b" refused " }
 }
 
 // "on success a line for each tick": how many such lines there are.
@@ -83,17 +93,17 @@ fn ticks(answer: RunVerdict, plan: &[u8]) -> u32
     ensures { (result ≡ ticks_of (run_numbers answer) plan.now) × (result < 65536) }
 {
     match answer {
-        RunVerdict::Accepted(_) => {
+        Ok(_) => {
             let sizes = records::plan::counts(plan);
             sizes.horizon as u32
         }
-        RunVerdict::Refused(_) => 0,
+        Err(_) => 0,
     }
 }
 
 // ---- lengths
 
-// How many decimal digits a number has.
+// How many decimal digits a number has. The loop goes on while digits are left, so it is no range.
 fn decimal_length(n: u32) -> usize
     ensures { (result ≡ length (decimal n)) × (result ≤ 10) }
 {
@@ -113,18 +123,11 @@ fn three_length(a: u32, b: u32, c: u32) -> usize
     decimal_length(a) + decimal_length(b) + decimal_length(c) + 3
 }
 
-// The length of ` accepted ` or ` refused `.
-fn word_length(passed: bool) -> usize
-    ensures { (result ≡ length (verdict_word passed)) × (result ≤ 10) }
-{
-    if passed { 10 } else { 9 }
-}
-
 // The length of a line that begins with a name.
 fn line_length(name: &[u8], said: Said) -> usize
     ensures { (result ≡ length (line name.now said)) × (result ≤ length name.now + 43) }
 {
-    name.len() + word_length(said.passed) + three_length(said.a, said.b, said.c)
+    name.len() + verdict_word(said.passed).len() + three_length(said.a, said.b, said.c)
 }
 
 // The length of the lines of h ticks: a tick's number, a space, 8 digits and the end of the line.
@@ -133,31 +136,16 @@ fn ticks_length(h: u32) -> usize
     ensures { (result ≡ total h tick_length) × (result ≤ 20 * h) }
 {
     let mut n: usize = 0;
-    let mut t: u32 = 0;
-    while t < h {
+    for t in 0..h {
         n += decimal_length(t) + 10;
-        t += 1;
     }
     n
 }
 
-// ---- writing at a position, which is then moved past what was written
+// ---- storing at a position; the answer is the position behind what was stored
 
-// The bytes of s.
-fn put(out: &mut [u8], at: usize, s: &[u8]) -> usize
-    requires { at + length s.now ≤ length out.old }
-    ensures { Appended at s.now out.old result out.new }
-{
-    let mut i = 0;
-    while i < s.len() {
-        out[at + i] = s[i];
-        i += 1;
-    }
-    at + i
-}
-
-// A number in decimal, from the last digit back to the first.
-fn put_decimal(out: &mut [u8], at: usize, n: u32) -> usize
+// A number in decimal, from the last digit back to the first. The loop goes on while digits are left, so it is no range.
+fn store_decimal(out: &mut [u8], at: usize, n: u32) -> usize
     requires { at + length (decimal n) ≤ length out.old }
     ensures { Appended at (decimal n) out.old result out.new }
 {
@@ -182,82 +170,84 @@ fn digit_from(word: u32, bit: u32) -> u8
 }
 
 // "the word as 8 lowercase hexadecimal digits", from that of its highest 4 bits on.
-fn put_hex(out: &mut [u8], at: usize, word: u32) -> usize
+fn store_hex(out: &mut [u8], at: usize, word: u32) -> usize
     requires { at + 8 ≤ length out.old }
     ensures { Appended at (hex 8 word) out.old result out.new }
 {
-    let mut i: u32 = 0;
-    while i < 8 {
+    for i in 0..8u32 {
         out[at + i as usize] = digit_from(word, 28 - 4 * i);
-        i += 1;
     }
     at + 8
 }
 
-// A number in decimal, and the byte that ends it.
-fn put_number(out: &mut [u8], at: usize, n: u32, end: u8) -> usize
-    requires { at + length (number n end) ≤ length out.old }
-    ensures { Appended at (number n end) out.old result out.new }
-{
-    let next = put_decimal(out, at, n);
-    out[next] = end;
-    next + 1
+// ---- writing
+
+// A lent buffer, and how many of its bytes are written. What is written next stands behind them.
+#[derive(Drop)]
+struct Writer<'a> {
+    out: &'a mut [u8],
+    at: usize,
 }
 
-// "the three figures", or "number, A, B".
-fn put_three(out: &mut [u8], at: usize, a: u32, b: u32, c: u32) -> usize
-    requires { at + length (three a b c) ≤ length out.old }
-    ensures { Appended at (three a b c) out.old result out.new }
-{
-    let at2 = put_number(out, at, a, b' ');
-    let at3 = put_number(out, at2, b, b' ');
-    put_number(out, at3, c, b'\n')
-}
-
-// ` accepted ` or ` refused `.
-fn put_word(out: &mut [u8], at: usize, passed: bool) -> usize
-    requires { at + length (verdict_word passed) ≤ length out.old }
-    ensures { Appended at (verdict_word passed) out.old result out.new }
-{
-    if passed {
-        put(out, at, b" accepted ")
-    } else {
-        put(out, at, b" refused ")
+impl Writer<'_> {
+    // The bytes of s.
+    fn put(&mut self, s: &[u8])
+        requires { HasRoom self.old s.now }
+        ensures { Wrote self.old s.now self.new }
+    {
+        let next = self.at + s.len();
+        self.out[self.at..next].copy_from_slice(s);
+        self.at = next;
     }
-}
 
-// A line: the name that begins it, the verdict and its three numbers.
-fn put_line(out: &mut [u8], at: usize, name: &[u8], said: Said) -> usize
-    requires { at + length (line name.now said) ≤ length out.old }
-    ensures { Appended at (line name.now said) out.old result out.new }
-{
-    let at2 = put(out, at, name);
-    let at3 = put_word(out, at2, said.passed);
-    put_three(out, at3, said.a, said.b, said.c)
-}
-
-// "the tick then the word"
-fn put_tick(out: &mut [u8], at: usize, t: u32, word: u32) -> usize
-    requires { at + length (tick_line t word) ≤ length out.old }
-    ensures { Appended at (tick_line t word) out.old result out.new }
-{
-    let at2 = put_number(out, at, t, b' ');
-    let at3 = put_hex(out, at2, word);
-    put(out, at3, b"\n")
-}
-
-// "a line for each tick", from 0 to h - 1.
-fn put_ticks(out: &mut [u8], plan: &[u8], h: u32) -> usize
-    requires { (h < 65536) × (length (chain h (tick_text plan.now)) ≤ length out.old) }
-    ensures { Appended 0 (chain h (tick_text plan.now)) out.old result out.new }
-{
-    let mut at: usize = 0;
-    let mut t: u32 = 0;
-    while t < h {
-        at = put_tick(out, at, t, word_at(plan, t));
-        t += 1;
+    // A number in decimal, and the byte that ends it.
+    fn put_number(&mut self, n: u32, end: u8)
+        requires { HasRoom self.old (number n end) }
+        ensures { Wrote self.old (number n end) self.new }
+    {
+        self.at = store_decimal(self.out, self.at, n);
+        self.put(&[end]);
     }
-    at
+
+    // "the three figures", or "number, A, B".
+    fn put_three(&mut self, a: u32, b: u32, c: u32)
+        requires { HasRoom self.old (three a b c) }
+        ensures { Wrote self.old (three a b c) self.new }
+    {
+        self.put_number(a, b' ');
+        self.put_number(b, b' ');
+        self.put_number(c, b'\n');
+    }
+
+    // A line: the name that begins it, the verdict and its three numbers.
+    fn put_line(&mut self, name: &[u8], said: Said)
+        requires { HasRoom self.old (line name.now said) }
+        ensures { Wrote self.old (line name.now said) self.new }
+    {
+        self.put(name);
+        self.put(verdict_word(said.passed));
+        self.put_three(said.a, said.b, said.c);
+    }
+
+    // "the tick then the word"
+    fn put_tick(&mut self, t: u32, word: u32)
+        requires { HasRoom self.old (tick_line t word) }
+        ensures { Wrote self.old (tick_line t word) self.new }
+    {
+        self.put_number(t, b' ');
+        self.at = store_hex(self.out, self.at, word);
+        self.put(b"\n");
+    }
+
+    // "a line for each tick", from 0 to h - 1.
+    fn put_ticks(&mut self, plan: &[u8], h: u32)
+        requires { (h < 65536) × HasRoom self.old (chain h (tick_text plan.now)) }
+        ensures { Wrote self.old (chain h (tick_text plan.now)) self.new }
+    {
+        for t in 0..h {
+            self.put_tick(t, word_at(plan, t));
+        }
+    }
 }
 
 // ---- the programs' output
@@ -274,8 +264,10 @@ pub fn check_lines(out: &mut [u8], plain: Verdict, strict: Verdict) -> usize
     if out.len() < n {
         return 0;
     }
-    let at = put_line(out, 0, b"plain", first);
-    put_line(out, at, b"strict", second)
+    let mut writer = Writer { out, at: 0 };
+    writer.put_line(b"plain", first);
+    writer.put_line(b"strict", second);
+    writer.at
 }
 
 // "prints on success a line for each tick, the tick then the word as 8 lowercase hexadecimal digits, then `run accepted`
@@ -290,8 +282,10 @@ pub fn run_lines(out: &mut [u8], answer: RunVerdict, plan: &[u8]) -> usize
     if out.len() < n {
         return 0;
     }
-    let at = put_ticks(out, plan, h);
-    put_line(out, at, b"run", said)
+    let mut writer = Writer { out, at: 0 };
+    writer.put_ticks(plan, h);
+    writer.put_line(b"run", said);
+    writer.at
 }
 
 // "A program like `gridrun` prints activity and figure by line, for 43 too, then the last line". As many rows as there are
@@ -306,6 +300,8 @@ pub fn late_lines(out: &mut [u8], answer: RunVerdict, activities: u8, rows: &[i3
     if out.len() < n {
         return 0;
     }
-    let at = late::put_lines(out, rows, count);
-    put_line(out, at, b"run", said)
+    let mut writer = Writer { out, at: 0 };
+    writer.put_rows(rows, count);
+    writer.put_line(b"run", said);
+    writer.at
 }

@@ -6,20 +6,18 @@ ghost use Rattle.std.specs.Prelude.{◌≡◌, ◌&&◌, cond, ◌+◌, min, leb
 ghost use Rattle.schedule.specs.Timing.{deadline, on_time};
 ghost use Rattle.schedule.specs.Report.{lateness};
 
-use numbers::sum;
-
 // "end + that predecessor's delay ≤ t", for every end and delay: no sum is made.
 pub fn passed(end: u32, delay: u32, t: u32) -> bool
     ensures { result ≡ leb (end + delay) t }
 {
-    if end <= t { delay <= t - end } else { false }
+    end <= t && delay <= t - end
 }
 
 // "start < end ≤ H"
 pub fn spans(start: u32, end: u32, horizon: u32) -> bool
     ensures { result ≡ (ltb start end && leb end horizon) }
 {
-    if start < end { end <= horizon } else { false }
+    start < end && end <= horizon
 }
 
 // The deadline of a thread that has a period: "release + period", in 64 bits, where the sum of any two numbers of 32 bits is
@@ -34,11 +32,7 @@ fn deadline(release: u32, period: u32) -> u64
 pub fn on_time(release: u32, period: u32, end: u32) -> bool
     ensures { result ≡ on_time release period end }
 {
-    if period == 0 {
-        true
-    } else {
-        end as u64 <= deadline(release, period)
-    }
+    period == 0 || end as u64 <= deadline(release, period)
 }
 
 // "the deadline less its end, as a signed whole number, negative when late and 0 on the dot", and −2147483648 without a period.
@@ -57,21 +51,23 @@ pub fn let_go(temporal: bool, by_data: bool, done: u32, delay: u32) -> u32
     ensures { result ≡ cond temporal (min (done + delay) 4294967295) (cond by_data done 0) }
 {
     if temporal {
-        return sum(done, delay);
+        done.saturating_add(delay)
+    } else if by_data {
+        done
+    } else {
+        0
     }
-    if by_data { done } else { 0 }
 }
 
 // `next`, or `other` where that comes after tick t and before `next`.
 pub fn sooner(next: u32, other: u32, t: u32) -> u32
     ensures { result ≡ cond (ltb t other && ltb other next) other next }
 {
-    if t < other {
-        if other < next {
-            return other;
-        }
+    if t < other && other < next {
+        other
+    } else {
+        next
     }
-    next
 }
 
 // A word, and the tick before which it stays.

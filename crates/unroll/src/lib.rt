@@ -20,28 +20,28 @@ pub fn times(x: u8, y: u8) -> u32
 pub fn in_all(rounds: u8, n: u8) -> u8
     ensures { result ≡ in_all rounds n }
 {
-    (times(rounds, n) % 256) as u8
+    rounds.wrapping_mul(n)
 }
 
 // The round of a number among all, where each round has n; 0 where it has none.
 pub fn round(number: u8, n: u8) -> u8
     ensures { result ≡ number / n }
 {
-    if n == 0 { 0 } else { number / n }
+    number.checked_div(n).unwrap_or(0)
 }
 
 // Its place in that round.
 pub fn place(number: u8, n: u8) -> u8
     ensures { result ≡ number % n }
 {
-    if n == 0 { number } else { number % n }
+    number.checked_rem(n).unwrap_or(number)
 }
 
 // "thread j of round k is thread k times n + j"
 pub fn number(k: u8, n: u8, j: u8) -> u8
     ensures { result ≡ number_in k n j }
 {
-    ((times(k, n) + (j as u32)) % 256) as u8
+    k.wrapping_mul(n).wrapping_add(j)
 }
 
 // A release "moved on by k times the period (by 0 without one)", however far that is.
@@ -62,8 +62,7 @@ pub fn release(k: u8, period: u16, release: u16) -> u16
 pub fn mask(k: u8, m: u8, mask: u32) -> u32
     ensures { result ≡ moved_mask k m mask }
 {
-    let by = times(k, m);
-    if by < 32 { mask << by } else { 0 }
+    mask.checked_shl(times(k, m)).unwrap_or(0)
 }
 
 // "With loop byte q, activity q of round k is a temporal predecessor of a in round k + 1": the mask of a in round k, with the
@@ -71,11 +70,9 @@ pub fn mask(k: u8, m: u8, mask: u32) -> u32
 pub fn with_loop(k: u8, m: u8, q: u8, mask: u32) -> u32
     ensures { result ≡ with_loop k m q mask }
 {
-    if k == 0 {
-        return mask;
+    if k == 0 || q == NO_LOOP {
+        mask
+    } else {
+        bits::with(mask, times(k - 1, m) + q as u32)
     }
-    if q == NO_LOOP {
-        return mask;
-    }
-    bits::with(mask, times(k - 1, m) + (q as u32))
 }

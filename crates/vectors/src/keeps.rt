@@ -1,6 +1,6 @@
 // The stored cases of edits through a state: marks, clears, asks and keeps.
 use crate::{next_number, next_record, print_bytes, print_edited, print_numbers, print_refused};
-use edit_rules::{Edit, Editing, Kept, Step, Told};
+use edit_rules::{Edit, Edited, Editing, Kept, Step, Told};
 use schedule::{Figures, Verdict};
 use std::io;
 use std::io::{Read, Write};
@@ -8,8 +8,8 @@ use std::io::{Read, Write};
 // Prints what a keep answers.
 fn print_kept<W: Write>(out: &mut W, answer: Kept) -> io::Result<()> {
     match answer {
-        Kept::Done => writeln!(out, "done"),
-        Kept::Refused(why) => print_numbers(out, edits::unkept_numbers(why)),
+        Ok(()) => writeln!(out, "done"),
+        Err(why) => print_numbers(out, edits::unkept_numbers(why)),
     }
 }
 
@@ -22,16 +22,16 @@ fn print_figures<W: Write>(out: &mut W, f: Figures) -> io::Result<()> {
 fn print_verdict<W: Write>(out: &mut W, verdict: Verdict) -> io::Result<()> {
     write!(out, "verdict ")?;
     match verdict {
-        Verdict::Accepted(f) => print_figures(out, f),
-        Verdict::Refused(x) => print_refused(out, x),
+        Ok(f) => print_figures(out, f),
+        Err(x) => print_refused(out, x),
     }
 }
 
 // Prints what an ask answers.
 fn print_told<W: Write>(out: &mut W, answer: Told) -> io::Result<()> {
     match answer {
-        Told::Verdict(verdict) => print_verdict(out, verdict),
-        Told::Refused(why) => print_numbers(out, edits::reason_numbers(why)),
+        Ok(verdict) => print_verdict(out, verdict),
+        Err(why) => print_numbers(out, edits::reason_numbers(why)),
     }
 }
 
@@ -60,9 +60,32 @@ fn keep<W: Write>(
     Ok(step.state)
 }
 
-// A mark for 1, and a clear otherwise.
-fn edited(state: Editing, model: &[u8], plan: &mut [u8], kind: u32, e: Edit) -> Step {
-    if kind == 1 {
+// A call of an editor.
+#[derive(Clone, Copy)]
+enum Call {
+    Clear,
+    Mark,
+    AskClear,
+    AskMark,
+    Keep,
+}
+
+// The file's numbers of the calls. Any other number is a clear.
+impl From<u32> for Call {
+    fn from(number: u32) -> Call {
+        match number {
+            1 => Call::Mark,
+            2 => Call::AskClear,
+            3 => Call::AskMark,
+            4 => Call::Keep,
+            _ => Call::Clear,
+        }
+    }
+}
+
+// A mark or a clear.
+fn edited(state: Editing, model: &[u8], plan: &mut [u8], e: Edit) -> Step<Edited> {
+    if e.on {
         return edits::mark_with(state, model, plan, e.activity, e.tick);
     }
     edits::clear_with(state, model, plan, e.activity, e.tick)
@@ -74,10 +97,9 @@ fn edit<W: Write>(
     state: Editing,
     model: &[u8],
     plan: &mut [u8],
-    kind: u32,
     e: Edit,
 ) -> io::Result<Editing> {
-    let step = edited(state, model, plan, kind, e);
+    let step = edited(state, model, plan, e);
     print_edited(out, step.answer)?;
     Ok(step.state)
 }
@@ -90,19 +112,17 @@ fn next_step<R: Read, W: Write>(
     model: &[u8],
     plan: &mut [u8],
 ) -> io::Result<Editing> {
-    let kind = next_number(cases);
+    let call = Call::from(next_number(cases));
     let e = Edit {
-        on: kind == 1 || kind == 3,
+        on: matches!(call, Call::Mark | Call::AskMark),
         activity: next_number(cases),
         tick: next_number(cases),
     };
-    if kind == 2 || kind == 3 {
-        return ask_for(out, state, model, plan, e);
+    match call {
+        Call::Mark | Call::Clear => edit(out, state, model, plan, e),
+        Call::AskMark | Call::AskClear => ask_for(out, state, model, plan, e),
+        Call::Keep => keep(out, state, model, plan),
     }
-    if kind == 4 {
-        return keep(out, state, model, plan);
-    }
-    edit(out, state, model, plan, kind, e)
 }
 
 // Reads the next calls of an editor on a plan, as many as the file says, and prints what each answers, and the plan afterwards.

@@ -25,37 +25,20 @@ ghost use Rattle.schedule.specs.Numbers.{word_numbers};
 ghost use Rattle.schedule.specs.Streams.{view_word};
 
 use edit_rules::Edited;
-use input::Input;
-use numbers::{refusal_numbers, smaller, wrap_number};
-use records::Pass;
-use schedule::{Chosen, Numbered, Part, Refusal, Standing, WordAt, WrapRefusal};
+use numbers::{refusal_numbers, wrap_number};
+use schedule::{Chosen, Numbered, Part, Refusal, Side, Standing, WrapRefused};
 use std::io::{BufWriter, Read, Write};
 use std::{fs, io};
 
 mod keeps;
-
-// The kinds of cases, in the order of the file.
-#[derive(Clone, Copy)]
-enum Kind {
-    Check,
-    Run,
-    View,
-    Held,
-    Split,
-    Report,
-    Pair,
-    File,
-    Edits,
-    Keeps,
-}
 
 // Reads into the buffer and answers how many bytes came, which are fewer than it holds where the file ends.
 fn read_full<R: Read>(cases: &mut R, buf: &mut [u8]) -> usize
     ensures { result ≤ length buf.new }
 {
     match input::fill(cases, buf) {
-        Input::Bytes(n) => n,
-        Input::Failed(n) => n,
+        Ok(n) => n,
+        Err(e) => e.read,
     }
 }
 
@@ -149,18 +132,18 @@ fn print_numbers<W: Write>(out: &mut W, said: Numbered) -> io::Result<()> {
 }
 
 // Prints what the making of a view answers.
-fn print_making<W: Write>(out: &mut W, made: Pass) -> io::Result<()> {
+fn print_making<W: Write>(out: &mut W, made: Result<(), Refusal>) -> io::Result<()> {
     match made {
-        Pass::Holds => writeln!(out, "made"),
-        Pass::Refused(why) => print_refused(out, why),
+        Ok(()) => writeln!(out, "made"),
+        Err(why) => print_refused(out, why),
     }
 }
 
 // Prints what a view gives.
-fn print_word<W: Write>(out: &mut W, found: WordAt) -> io::Result<()> {
+fn print_word<W: Write>(out: &mut W, found: Option<u32>) -> io::Result<()> {
     match found {
-        WordAt::Word(word) => writeln!(out, "word {word}"),
-        WordAt::Past => writeln!(out, "past"),
+        Some(word) => writeln!(out, "word {word}"),
+        None => writeln!(out, "past"),
     }
 }
 
@@ -178,9 +161,9 @@ fn next_view<R: Read, W: Write>(cases: &mut R, out: &mut W) -> io::Result<()> {
 // What a view gives at three ticks.
 #[derive(Clone, Copy)]
 struct Asked {
-    first: WordAt,
-    second: WordAt,
-    third: WordAt,
+    first: Option<u32>,
+    second: Option<u32>,
+    third: Option<u32>,
 }
 
 // Holds one view over a model and a plan, and asks it three times.
@@ -270,22 +253,22 @@ fn next_report<R: Read, W: Write>(cases: &mut R, out: &mut W) -> io::Result<()> 
     let mut choice = [0u8; 256];
     let m = next_record(cases, &mut model);
     let c = next_record(cases, &mut choice);
-    let lent = smaller(next_number(cases), 128) as usize;
+    let lent = next_number(cases).min(128) as usize;
     let mut rows = rows_before();
     print_report(out, &model[..m], &choice[..c], &mut rows[..lent])
 }
 
 // Prints a refusal of wrapped records at a record.
-fn print_wrap_refused<W: Write>(out: &mut W, why: WrapRefusal, a: usize) -> io::Result<()> {
-    writeln!(out, "refused {} {a} 0", wrap_number(why))
+fn print_wrap_refused<W: Write>(out: &mut W, x: WrapRefused) -> io::Result<()> {
+    writeln!(out, "refused {} {} 0", wrap_number(x.why), x.index)
 }
 
 // Prints which of two wrapped records stands.
 fn print_standing<W: Write>(out: &mut W, found: Standing) -> io::Result<()> {
     match found {
-        Standing::First => writeln!(out, "stands first"),
-        Standing::Second => writeln!(out, "stands second"),
-        Standing::Refused(why, a) => print_wrap_refused(out, why, a),
+        Ok(Side::First) => writeln!(out, "stands first"),
+        Ok(Side::Second) => writeln!(out, "stands second"),
+        Err(x) => print_wrap_refused(out, x),
     }
 }
 
@@ -297,8 +280,8 @@ fn print_part<W: Write>(out: &mut W, x: Part) -> io::Result<()> {
 // Prints which record of a file is chosen.
 fn print_chosen<W: Write>(out: &mut W, found: Chosen) -> io::Result<()> {
     match found {
-        Chosen::Record(x) => print_part(out, x),
-        Chosen::Refused(why, a) => print_wrap_refused(out, why, a),
+        Ok(x) => print_part(out, x),
+        Err(x) => print_wrap_refused(out, x),
     }
 }
 
@@ -323,8 +306,8 @@ fn next_file<R: Read, W: Write>(cases: &mut R, out: &mut W) -> io::Result<()> {
 // Prints what a mark or a clear answers.
 fn print_edited<W: Write>(out: &mut W, answer: Edited) -> io::Result<()> {
     match answer {
-        Edited::Done => writeln!(out, "done"),
-        Edited::Refused(why) => print_numbers(out, edits::reason_numbers(why)),
+        Ok(()) => writeln!(out, "done"),
+        Err(why) => print_numbers(out, edits::reason_numbers(why)),
     }
 }
 
@@ -363,28 +346,16 @@ fn next_edits<R: Read, W: Write>(cases: &mut R, out: &mut W) -> io::Result<()> {
     next_calls(cases, out, &model[..m], &mut plan[..p])
 }
 
-// Reads the next case of a kind and prints what its call answers.
-fn next<R: Read, W: Write>(cases: &mut R, out: &mut W, kind: Kind) -> io::Result<()> {
-    match kind {
-        Kind::Check => next_check(cases, out),
-        Kind::Run => next_run(cases, out),
-        Kind::View => next_view(cases, out),
-        Kind::Held => next_held(cases, out),
-        Kind::Split => next_split(cases, out),
-        Kind::Report => next_report(cases, out),
-        Kind::Pair => next_pair(cases, out),
-        Kind::File => next_file(cases, out),
-        Kind::Edits => next_edits(cases, out),
-        Kind::Keeps => keeps::next_case(cases, out),
-    }
-}
-
-// Reads how many cases of a kind there are, then each, and prints it behind its number.
-fn all<R: Read, W: Write>(cases: &mut R, out: &mut W, kind: Kind) -> io::Result<()> {
+// Reads how many cases of a kind there are, then each by what reads and prints the next one, and prints it behind its number.
+fn all<R: Read, W: Write, F>(cases: &mut R, out: &mut W, next: F) -> io::Result<()>
+where
+    F: Fn(&mut R, &mut W) -> io::Result<()>,
+    requires { F.IsAlwaysCallable next }
+{
     let count = next_number(cases);
     for number in 0..count {
         writeln!(out, "{number}")?;
-        next(cases, out, kind)?;
+        next(cases, out)?;
     }
     Ok(())
 }
@@ -393,15 +364,15 @@ fn main(rt: HostRuntime) -> io::Result<()> {
     let file = fs::read(&rt, "cases")?;
     let mut cases = file.as_slice();
     let mut out = BufWriter::new(rt.alloc(), rt.stdout())?;
-    all(&mut cases, &mut out, Kind::Check)?;
-    all(&mut cases, &mut out, Kind::Run)?;
-    all(&mut cases, &mut out, Kind::View)?;
-    all(&mut cases, &mut out, Kind::Held)?;
-    all(&mut cases, &mut out, Kind::Split)?;
-    all(&mut cases, &mut out, Kind::Report)?;
-    all(&mut cases, &mut out, Kind::Pair)?;
-    all(&mut cases, &mut out, Kind::File)?;
-    all(&mut cases, &mut out, Kind::Edits)?;
-    all(&mut cases, &mut out, Kind::Keeps)?;
+    all(&mut cases, &mut out, next_check)?;
+    all(&mut cases, &mut out, next_run)?;
+    all(&mut cases, &mut out, next_view)?;
+    all(&mut cases, &mut out, next_held)?;
+    all(&mut cases, &mut out, next_split)?;
+    all(&mut cases, &mut out, next_report)?;
+    all(&mut cases, &mut out, next_pair)?;
+    all(&mut cases, &mut out, next_file)?;
+    all(&mut cases, &mut out, next_edits)?;
+    all(&mut cases, &mut out, keeps::next_case)?;
     out.flush()
 }

@@ -9,54 +9,44 @@ ghost use Rattle.records.specs.Reads.{pass_numbers};
 ghost use Rattle.schedule.specs.Lent.{LiesAt};
 ghost use Rattle.view.specs.Grid.{held_bytes, held_from, grid_word, HeldOver};
 
-use records::Pass;
-use records::model::ModelRead;
-use records::plan::PlanRead;
-use schedule::WordAt;
+use schedule::Refusal;
 
 // "a struct over the plan's grid slice", and what its making answered.
 #[derive(Clone, Copy)]
 pub struct View<'a> {
     pub grid: &'a [u8],
-    pub made: Pass,
+    pub made: Result<(), Refusal>,
 }
 
 // ---- over plain slices
 
 // The form rules of both records: "refused with the number, A and B that the check gives".
-pub fn refusal(model: &[u8], plan: &[u8]) -> Pass
+pub fn refusal(model: &[u8], plan: &[u8]) -> Result<(), Refusal>
     ensures { pass_numbers result ≡ view_refusal model.now plan.now }
 {
-    let read = records::model::read(model);
-    if let ModelRead::Refused(why) = read {
-        return Pass::Refused(why);
-    }
-    let form = records::plan::read(model, plan);
-    if let PlanRead::Refused(why) = form {
-        return Pass::Refused(why);
-    }
-    Pass::Holds
+    records::model::read(model)?;
+    records::plan::read(model, plan)
 }
 
 // The part of a plan that is held: its words, and none where the making is refused.
-fn held(plan: &[u8], made: Pass) -> &[u8]
+fn held(plan: &[u8], made: Result<(), Refusal>) -> &[u8]
     ensures { (result.now ≡ held_bytes (pass_numbers made) plan.now)
         × LiesAt plan.entry (held_from (pass_numbers made) plan.now) result }
 {
-    if let Pass::Refused(_) = made {
-        return &plan[0..0];
+    match made {
+        Ok(()) => records::plan::words(plan),
+        Err(_) => &plan[0..0],
     }
-    records::plan::words(plan)
 }
 
-// The word at a tick, of any part that is held.
-fn word_in(grid: &[u8], t: usize) -> WordAt
+// The word at a tick, of any part that is held, and past the last one none.
+fn word_in(grid: &[u8], t: usize) -> Option<u32>
     ensures { word_numbers result ≡ grid_word grid.now t }
 {
     if t < records::grid::ticks(grid) {
-        WordAt::Word(records::grid::word(grid, t))
+        Some(records::grid::word(grid, t))
     } else {
-        WordAt::Past
+        None
     }
 }
 
@@ -75,14 +65,14 @@ pub fn over<'a>(model: &[u8], plan: &'a [u8]) -> View<'a>
 }
 
 // "a thin call for the word at a tick": of every view, also one that no making made.
-pub fn word<'a>(view: View<'a>, t: usize) -> WordAt
+pub fn word<'a>(view: View<'a>, t: usize) -> Option<u32>
     ensures { word_numbers result ≡ grid_word view.entry.grid.now t }
 {
     word_in(view.grid, t)
 }
 
 // The word at a tick of the view made over a model and a plan.
-pub fn word_at(model: &[u8], plan: &[u8], t: usize) -> WordAt
+pub fn word_at(model: &[u8], plan: &[u8], t: usize) -> Option<u32>
     ensures { word_numbers result ≡ view_word model.now plan.now t }
 {
     word(over(model, plan), t)

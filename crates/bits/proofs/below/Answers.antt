@@ -2,12 +2,8 @@
 -- Assumes nothing.
 use native.Mathlib.Omega.{arith}
 use mathlib.Core.Path.{sym}
-use lib.Pow.{pow_pos}
 use Rattle.laws.proofs.WordLaws.{below_all, below-low, shl_one}
 use Rattle.bits.proofs.below.Goals as goal
-
-pub overflow_sub-result : goal.overflow_sub-result
-overflow_sub-result c = rw (shl_one c.args.n c.if-n-lt32.true) (pow_pos c.args.n)
 
 pub returns-then-n-lt32 : goal.returns-then-n-lt32
 returns-then-n-lt32 c = rw (shl_one c.args.n c.if-n-lt32.true) (sym (below-low 32 c.args.n (omega arith)))

@@ -4,7 +4,7 @@ use mathlib.Core.Path.{ap, ◌∙◌}
 use Rattle.capi.specs.Exported.{refusal_exported}
 use Rattle.capi.proofs.ask_answer.Goals as goal
 
-pub returns-in-Refused : goal.returns-in-Refused
-returns-in-Refused c =
-    rw c.in-Refused.is
+pub returns-in-Err : goal.returns-in-Err
+returns-in-Err c =
+    rw c.in-Err.is
     (c.numbered.ensures ∙ ap refusal_exported c.reason_numbers.ensures)

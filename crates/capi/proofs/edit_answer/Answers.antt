@@ -4,10 +4,10 @@ use mathlib.Core.Path.{ap, ◌∙◌}
 use Rattle.capi.specs.Exported.{refusal_exported}
 use Rattle.capi.proofs.edit_answer.Goals as goal
 
-pub returns-in-Done : goal.returns-in-Done
-returns-in-Done c = simp c.in-Done.is
+pub returns-in-Ok : goal.returns-in-Ok
+returns-in-Ok c = simp c.in-Ok.is
 
-pub returns-in-Refused : goal.returns-in-Refused
-returns-in-Refused c =
-    rw c.in-Refused.is
+pub returns-in-Err : goal.returns-in-Err
+returns-in-Err c =
+    rw c.in-Err.is
     (c.numbered.ensures ∙ ap refusal_exported c.reason_numbers.ensures)

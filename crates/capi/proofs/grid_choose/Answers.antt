@@ -4,12 +4,12 @@ use Rattle.schedule.specs.Numbers.{chosen_numbers}
 use Rattle.capi.specs.Exported.{part_exported}
 use Rattle.capi.proofs.grid_choose.Goals as goal
 
-pub returns-in-Record : goal.returns-in-Record
-returns-in-Record c =
+pub returns-in-Ok : goal.returns-in-Ok
+returns-in-Ok c =
     c.part.ensures
-    ∙ ap part_exported (sym (ap chosen_numbers c.in-Record.is) ∙ c.choose-found.ensures)
+    ∙ ap part_exported (sym (ap chosen_numbers c.in-Ok.is) ∙ c.choose.ensures)
 
-pub returns-in-Refused : goal.returns-in-Refused
-returns-in-Refused c =
+pub returns-in-Err : goal.returns-in-Err
+returns-in-Err c =
     c.part_refusal.ensures
-    ∙ ap part_exported (sym (ap chosen_numbers c.in-Refused.is) ∙ c.choose-found.ensures)
+    ∙ ap part_exported (sym (ap chosen_numbers c.in-Err.is) ∙ c.choose.ensures)

@@ -14,9 +14,9 @@ returns-in_default c =
 pub returns-then-e : goal.returns-then-e
 returns-then-e c =
     let x = c.args in
-    written x.given x.asked _ c.in-Edit.is true c.if-e.true 1 refl
+    written x.given x.asked _ c.in-Some.is true c.if-e.true 1 refl
 
 pub returns-else-e : goal.returns-else-e
 returns-else-e c =
     let x = c.args in
-    written x.given x.asked _ c.in-Edit.is false c.if-e.false 2 refl
+    written x.given x.asked _ c.in-Some.is false c.if-e.false 2 refl

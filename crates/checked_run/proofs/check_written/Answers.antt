@@ -11,5 +11,5 @@ returns c =
     let part = c.front-plan.ensures.0 in
     let x = c.args in
     ap₂ (λ (plain strict : Answer Answers.Figures). ran (written_numbers x.written) plain strict)
-    (c.check_plain-plain.ensures ∙ ap (plain_verdict x.model.now) part)
-    (c.check_strict-strict.ensures ∙ ap (strict_verdict x.model.now) part)
+    (c.check_plain.ensures ∙ ap (plain_verdict x.model.now) part)
+    (c.check_strict.ensures ∙ ap (strict_verdict x.model.now) part)

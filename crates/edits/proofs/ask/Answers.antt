@@ -4,11 +4,11 @@ use Rattle.edits.proofs.StrokeLaws.{is_done}
 use Rattle.edits.proofs.StateLaws.{ask-refused, ask_erases, ask-told, ask-asks}
 use Rattle.edits.proofs.ask.Goals as goal
 
-pub returns-in-Refused : goal.returns-in-Refused
-returns-in-Refused c =
+pub returns-in-Err : goal.returns-in-Err
+returns-in-Err c =
     let x = c.args in
-    let told = c.tried-said.ensures in
-    let is = c.in-Refused.is in (
+    let told = c.tried.ensures in
+    let is = c.in-Err.is in (
       ask-refused x.model.now x.plan.now x.state x.e _ told _ is,
       c.begin.ensures ∙ ask_erases x.model.now x.plan.now x.state x.e _ told _ is,
     )
@@ -16,13 +16,13 @@ returns-in-Refused c =
 pub verdict_after-requires : goal.verdict_after-requires
 verdict_after-requires c =
     let x = c.args in
-    is_done x.model.now x.plan.now x.e _ c.tried-said.ensures c.in_default.is
+    is_done x.model.now x.plan.now x.e _ c.tried.ensures c.in-Ok.is
 
-pub returns : goal.returns
-returns c =
+pub returns-in-Ok : goal.returns-in-Ok
+returns-in-Ok c =
     let x = c.args in
-    let told = c.tried-said.ensures in
-    let is = c.in_default.is in (
+    let told = c.tried.ensures in
+    let is = c.in-Ok.is in (
       ask-told x.model.now x.plan.now x.state x.e _ told is c.verdict_after.result c.verdict_after.ensures,
       ask-asks x.model.now x.plan.now x.state x.e _ told is c.verdict_after.result c.verdict_after.ensures,
     )

@@ -16,7 +16,7 @@ returns-in_default c =
 pub returns : goal.returns
 returns c =
     let x = c.args in
-    let is = c.in-Edit.is in
+    let is = c.in-Some.is in
     let made = c.apply_with-step.ensures in (
       c.kept.ensures ∙ made.0 ∙ kept-answer x.model.now x.plan.now x.state _ is,
       made.1 ∙ kept-state x.model.now x.plan.now x.state _ is,

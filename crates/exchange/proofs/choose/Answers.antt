@@ -25,12 +25,12 @@ bytes_of-requires-in-loop-at-2 c =
     let l = c.loop-at in
     inside c.args.file.now _ l.index l.at c.record_at-next.ensures l.invariant.here.in_file
 
-pub returns-in-Refused : goal.returns-in-Refused
-returns-in-Refused c =
+pub returns-in-Err : goal.returns-in-Err
+returns-in-Err c =
     let l = c.loop-at in
     sym (next_refused c.args.file.now _ _ l.index l.at _ _ l.invariant c.loop-at-test.true
     c.record_at-next.ensures c.bytes_of-in-loop-at.ensures.0 c.bytes_of-in-loop-at-2.ensures.0
-    _ _ c.compare-found.ensures c.in-Refused.is)
+    _ _ c.compare.ensures c.in-Err.is)
 
 pub overflow_add-at : goal.overflow_add-at
 overflow_add-at c =
@@ -58,7 +58,7 @@ loop-at-preserved c =
     let l = c.loop-at in
     next_taken c.args.file.now _ _ _ l.index l.at _ _ l.invariant c.loop-at-test.true
     c.record_at-next.ensures c.bytes_of-in-loop-at.ensures.0 c.bytes_of-in-loop-at-2.ensures.0
-    _ _ c.compare-found.ensures c.in-Taken.is c.upper-standing.ensures
+    _ _ c.compare.ensures c.in-Ok.is c.upper-standing.ensures
 
 pub returns : goal.returns
 returns c =

@@ -8,21 +8,21 @@ use Rattle.exchange.proofs.chosen.Goals as goal
 pub bytes_of-requires : goal.bytes_of-requires
 bytes_of-requires c =
     (chosen_part c.args.file.now _
-    (sym c.choose-found.ensures ∙ ap chosen_numbers c.in-Record.is)).inside
+    (sym c.choose.ensures ∙ ap chosen_numbers c.in-Ok.is)).inside
 
-pub returns-in-Record : goal.returns-in-Record
-returns-in-Record c =
+pub returns-in-Ok : goal.returns-in-Ok
+returns-in-Ok c =
     let file = c.args.file in
-    let answered = sym c.choose-found.ensures ∙ ap chosen_numbers c.in-Record.is in
+    let answered = sym c.choose.ensures ∙ ap chosen_numbers c.in-Ok.is in
     let part = chosen_part file.now _ answered in (
       c.bytes_of.ensures.0 ∙ sym (part.bytes ∙ part.lies),
       rw answered c.bytes_of.ensures.1,
     )
 
-pub returns-in-Refused : goal.returns-in-Refused
-returns-in-Refused c =
+pub returns-in-Err : goal.returns-in-Err
+returns-in-Err c =
     let file = c.args.file in
-    let answered = sym c.choose-found.ensures ∙ ap chosen_numbers c.in-Refused.is in (
+    let answered = sym c.choose.ensures ∙ ap chosen_numbers c.in-Err.is in (
       sym (chosen-nothing file.now _ answered).1,
       rw answered refl,
     )

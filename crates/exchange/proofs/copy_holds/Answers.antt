@@ -1,6 +1,7 @@
 -- `exchange::copy_holds` meets its contract: 56's test, one field after the other. Assumes nothing.
 use borrow.Author.Tests.{eq-eqb, ne_eqb}
 use Rattle.schedule.specs.Exchange.{copy_rule}
+use Rattle.exchange.proofs.RecordLaws.{same_as}
 use Rattle.exchange.proofs.copy_holds.Goals as goal
 
 pub returns-then-series : goal.returns-then-series
@@ -47,5 +48,6 @@ returns c =
       ← c.withdrawn.ensures,
       ← c.withdrawn-2.ensures,
       eq-eqb _ _ c.if-withdrawn.false,
-      c.same.ensures,
+      c.eq.ensures,
+      same_as c.args.w.now c.args.x.now,
     )

@@ -11,22 +11,22 @@ returns-then-not-wrapper_holds c =
     let x = c.args in
     sym (pair_unright x.first.now x.second.now (told_no c.wrapper_holds.ensures c.if-not-wrapper_holds.true))
 
-pub returns-in-Refused : goal.returns-in-Refused
-returns-in-Refused c =
+pub returns-in-Err : goal.returns-in-Err
+returns-in-Err c =
     let x = c.args in
     sym (pair-refused x.first.now x.second.now _ _ (told-yes c.wrapper_holds.ensures c.if-not-wrapper_holds.false)
-    c.compare-found.ensures c.in-Refused.is)
+    c.compare.ensures c.in-Err.is)
 
-pub returns-then-above : goal.returns-then-above
-returns-then-above c =
+pub returns-in-Ok-true : goal.returns-in-Ok-true
+returns-in-Ok-true c =
     let x = c.args in
     sym (pair-taken x.first.now x.second.now _ _ (told-yes c.wrapper_holds.ensures c.if-not-wrapper_holds.false)
-    c.compare-found.ensures c.in-Taken.is
-    ∙ ap (λ (b : Bool). cond b (accepted 1) (accepted 0)) c.if-above.true)
+    c.compare.ensures c.in-Ok-true.is
+    ∙ ap (λ (b : Bool). cond b (accepted 1) (accepted 0)) c.in-Ok-true.field-0-test)
 
-pub returns-else-above : goal.returns-else-above
-returns-else-above c =
+pub returns-in-Ok-false : goal.returns-in-Ok-false
+returns-in-Ok-false c =
     let x = c.args in
     sym (pair-taken x.first.now x.second.now _ _ (told-yes c.wrapper_holds.ensures c.if-not-wrapper_holds.false)
-    c.compare-found.ensures c.in-Taken.is
-    ∙ ap (λ (b : Bool). cond b (accepted 1) (accepted 0)) c.if-above.false)
+    c.compare.ensures c.in-Ok-false.is
+    ∙ ap (λ (b : Bool). cond b (accepted 1) (accepted 0)) c.in-Ok-false.field-0-test)

@@ -1,16 +1,19 @@
--- `fields::be16` meets its contract. The two bytes read at once are the field, and a field of 2 bytes fits 16 bits.
+-- `fields::be16` meets its contract. The two bytes that are read are those of the field.
 -- Assumes nothing.
 use native.Mathlib.Omega.{arith}
-use mathlib.Core.Path.{◌∙◌}
-use Rattle.laws.proofs.FieldLaws.{field_lt}
-use Rattle.fields.proofs.ReadLaws.{field-two}
+use Rattle.fields.proofs.ReadLaws.{field-none, field_next}
 use Rattle.fields.proofs.be16.Goals as goal
 
-pub overflow_cast-result : goal.overflow_cast-result
-overflow_cast-result c =
-    omega (arith, field_lt c.args.s.now (λ i l. (c.type_inv.s i).fits) c.args.at 2)
-
-pub returns-then-room-ge2 : goal.returns-then-room-ge2
-returns-then-room-ge2 c =
-    let args = c.args in
-    c.paired.ensures ∙ field-two args.s.now args.at
+pub returns : goal.returns
+returns c =
+    let s = c.args.s.now in
+    let at = c.args.at in
+    omega (
+      arith,
+      c.from_be_bytes.ensures,
+      c.bytes_at.ensures 0 (omega arith),
+      c.bytes_at.ensures 1 (omega arith),
+      field-none s at,
+      field_next s at 0,
+      field_next s at 1,
+    )

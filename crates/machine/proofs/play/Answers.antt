@@ -18,12 +18,9 @@ unfolding sizes_of
 tabulate-tables-requires c =
     omega (arith, c.if-sizes-gt32.false, ap (λ (r : Sizes). r.activities) c.counts-sizes.ensures)
 
-pub play_ticks-last-requires : goal.play_ticks-last-requires
-play_ticks-last-requires c = c.tabulate-tables.ensures
-
-pub judge-judged-requires : goal.judge-judged-requires
+pub judge-requires : goal.judge-requires
 unfolding sizes_of
-judge-judged-requires c = (
+judge-requires c = (
   c.tabulate-tables.ensures,
   finished_stopped _ _ _ _ _ _
       (omega (arith, c.if-sizes-gt32.false, ap (λ (r : Sizes). r.activities) c.counts-sizes.ensures))
@@ -35,4 +32,4 @@ unfolding sizes_of
 returns c =
     played _ _ _ _ _ _ _
     (omega (arith, c.if-sizes-gt32.false, ap (λ (r : Sizes). r.activities) c.counts-sizes.ensures))
-    c.play_ticks-last.ensures c.judge-judged.ensures
+    c.play_ticks-last.ensures c.judge.ensures

@@ -5,7 +5,7 @@ use lib.Dec.{eqb}
 use Rattle.schedule.specs.Rule.{Refusal}
 use Rattle.numbers.proofs.fills.Goals as goal
 
-pub returns-in-Refused : goal.returns-in-Refused
-returns-in-Refused c =
-    rw c.in-Refused.is
+pub returns-in-Err : goal.returns-in-Err
+returns-in-Err c =
+    rw c.in-Err.is
     (ap (λ (x : Refusal). eqb x.number 43) c.refusal_numbers-said.ensures)

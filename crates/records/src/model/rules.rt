@@ -11,9 +11,9 @@ ghost use Rattle.records.specs.RowRules.{row_at};
 
 use crate::form::Names;
 use crate::model::{ActivityRow, Sizes, ThreadRow, page};
-use crate::rows::{Row, RowRead};
-use crate::{Pass, form, rows};
-use schedule::{FormRefusal, RowRule};
+use crate::rows::Row;
+use crate::{form, rows};
+use schedule::{FormRefusal, Refusal, RowRule};
 
 // ---- rules 1 to 4 and 51
 
@@ -50,7 +50,7 @@ fn rounds_hold(one: Sizes, rounds: u8) -> bool
 }
 
 // The rules that name no row.
-pub(crate) fn head(s: &[u8]) -> Pass
+pub(crate) fn head(s: &[u8]) -> Result<(), Refusal>
     ensures { pass_numbers result ≡ first_break (head_rules s.now) }
 {
     let one = page::counts(s);
@@ -60,19 +60,16 @@ pub(crate) fn head(s: &[u8]) -> Pass
         counts: FormRefusal::ModelLimits,
         formula: FormRefusal::ModelFormula,
     };
-    let first = form::head(
+    form::head(
         s,
         names,
         10,
         NEWEST,
         limits_hold(one),
         page::formula(s, one),
-    );
-    if let Pass::Refused(_) = first {
-        return first;
-    }
+    )?;
     if rounds_hold(one, page::rounds(s)) {
-        Pass::Holds
+        Ok(())
     } else {
         form::refused(FormRefusal::Rounds)
     }
@@ -168,7 +165,7 @@ fn rows_of(rule: RowRule, s: &[u8]) -> u8
 }
 
 // Row number A of those that a rule is tried at, or its refusal.
-fn read_row(rule: RowRule, s: &[u8], number: u8) -> RowRead
+fn read_row(rule: RowRule, s: &[u8], number: u8) -> Result<Row, Refusal>
     ensures { row_read_numbers result
         ≡ row_answer (row_rule rule (page s.now)) number (row_at rule (page s.now) number) }
 {
@@ -224,26 +221,23 @@ fn settled(rule: RowRule, s: &[u8]) -> bool
 }
 
 // A rule tried at every row, "lowest A first", unless none can break it.
-fn over_rows(rule: RowRule, s: &[u8]) -> Pass
+fn over_rows(rule: RowRule, s: &[u8]) -> Result<(), Refusal>
     ensures { pass_numbers result ≡ break (row_rule rule (page s.now)) }
 {
     if settled(rule, s) {
-        return Pass::Holds;
+        return Ok(());
     }
-    let rows = rows_of(rule, s);
-    let mut number: u8 = 0;
-    while number < rows {
+    for number in 0..rows_of(rule, s) {
         let read = read_row(rule, s, number);
-        let RowRead::Row(_) = read else {
-            return read.pass();
+        let Ok(_) = read else {
+            return read.map(|_| ());
         };
-        number += 1;
     }
-    Pass::Holds
+    Ok(())
 }
 
 // The rules of rows in their order: "Each number is tried over all its rows before the next".
-pub(crate) fn row_rules(s: &[u8]) -> Pass
+pub(crate) fn row_rules(s: &[u8]) -> Result<(), Refusal>
     ensures { pass_numbers result ≡ first_break (row_rules (page s.now)) }
 {
     let order = [
@@ -254,14 +248,8 @@ pub(crate) fn row_rules(s: &[u8]) -> Pass
         RowRule::Width,
         RowRule::Masks,
     ];
-    let mut k: usize = 0;
-    while k < order.len() {
-        let rule = order[k];
-        let pass = over_rows(rule, s);
-        if let Pass::Refused(_) = pass {
-            return pass;
-        }
-        k += 1;
+    for rule in order {
+        over_rows(rule, s)?;
     }
-    Pass::Holds
+    Ok(())
 }

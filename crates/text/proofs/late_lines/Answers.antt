@@ -1,11 +1,11 @@
 -- `text::late_lines` meets its contract: the activities' lines and the last one are printed where they fit.
 -- Assumes nothing.
-use native.Mathlib.Omega.{arith}
+use Rattle.std.proofs.Common.{arith, rules, refl}
 use Rattle.schedule.specs.Bounded.{chain}
 use Rattle.schedule.specs.Numbers.{run_numbers}
 use Rattle.text.specs.Said.{run_name, line}
 use Rattle.text.specs.Rows.{late_text}
-use Rattle.text.proofs.AppendLaws.{printed-whole, printed-nothing}
+use Rattle.text.proofs.AppendLaws.{wrote_length, printed-nothing, printed_written}
 use Rattle.text.proofs.LateLaws.{late-parts}
 use Rattle.text.proofs.late_lines.Goals as goal
 
@@ -21,16 +21,19 @@ returns-then-out-n c =
     printed-nothing (chain count.result (late_text x.rows.now)) (line run_name said.result) x.out.now e
     (omega arith)
 
+pub put_line-requires : goal.put_line-requires
+put_line-requires c = omega (arith, wrote_length c.put_rows.ensures)
+
 pub returns : goal.returns
 returns c =
     let x = c.args in
     let count = c.line_count-count in
     let said = c.run_said-said in
     let e = late-parts (run_numbers x.answer) x.activities x.rows.now count.ensures.0 said.ensures in
-    printed-whole e c.put_lines-at.ensures c.put_line.ensures
+    printed_written e refl c.put_rows.ensures c.put_line.ensures
     (omega (
       arith,
       c.if-out-n.false,
       c.line_length.ensures,
       c.lines_length.ensures,
-    ))
+    )) (search rules)

@@ -6,12 +6,12 @@ use Rattle.records.specs.declared.plan.PlanSizes.{PlanSizes}
 use Rattle.text.specs.Appended.{ticks_of}
 use Rattle.text.proofs.ticks.Goals as goal
 
-pub returns-in-Accepted : goal.returns-in-Accepted
+pub returns-in-Ok : goal.returns-in-Ok
 unfolding ticks_of plan_sizes_of
-returns-in-Accepted c =
+returns-in-Ok c =
     let horizon = ap (λ (x : PlanSizes). x.horizon) c.counts-sizes.ensures in
-    (simp c.in-Accepted.is horizon, omega (arith, c.struct_known-1.given))
+    (simp c.in-Ok.is horizon, omega (arith, c.struct_known-1.given))
 
-pub returns-in-Refused : goal.returns-in-Refused
+pub returns-in-Err : goal.returns-in-Err
 unfolding ticks_of
-returns-in-Refused c = (simp c.in-Refused.is, omega arith)
+returns-in-Err c = (simp c.in-Err.is, omega arith)

@@ -9,18 +9,6 @@ use Rattle.text.proofs.ticks_length.Goals as goal
 pub loop-t-init : goal.loop-t-init
 loop-t-init c = omega (arith, total-start tick_length)
 
-pub overflow_add-n : goal.overflow_add-n
-overflow_add-n c = omega arith
-
-pub overflow_add-n-in-loop-t : goal.overflow_add-n-in-loop-t
-overflow_add-n-in-loop-t c = omega arith
-
-pub overflow_add-t : goal.overflow_add-t
-overflow_add-t c = omega arith
-
-pub loop-t-smaller : goal.loop-t-smaller
-loop-t-smaller c = omega arith
-
 pub loop-t-preserved : goal.loop-t-preserved
 loop-t-preserved c = omega (arith, total_next c.loop-t.t tick_length)
 

@@ -4,10 +4,10 @@ use mathlib.Core.Path.{refl}
 use Rattle.view.specs.Grid.{held_bytes, held_from}
 use Rattle.view.proofs.held.Goals as goal
 
-pub returns-in-Refused : goal.returns-in-Refused
+pub returns-in-Err : goal.returns-in-Err
 unfolding held_bytes held_from
-returns-in-Refused c = rw c.in-Refused.is (refl, refl)
+returns-in-Err c = rw c.in-Err.is (refl, refl)
 
-pub returns : goal.returns
+pub returns-in-Ok : goal.returns-in-Ok
 unfolding held_bytes held_from
-returns c = rw c.in_default.is c.words.ensures
+returns-in-Ok c = rw c.in-Ok.is c.words.ensures

@@ -1,20 +1,18 @@
 -- `view::refusal` meets its contract: the model's reader, then the plan's. Assumes nothing.
+use Rattle.std.proofs.Common.{rules}
+use Rattle.std.specs.Prelude.{◌≡◌, Err}
+use mathlib.Core.Path.{ap, ◌∙◌}
+use Rattle.records.specs.Reads.{pass_numbers}
 use Rattle.view.proofs.RefusalLaws.{model_stops, plan-answers}
 use Rattle.view.proofs.refusal.Goals as goal
 
-pub returns-in-Refused : goal.returns-in-Refused
-returns-in-Refused c =
+pub returns-in_err-read : goal.returns-in_err-read
+returns-in_err-read c =
+    let told : c.from_residual.result ≡ Err c.in_err-read.field-0.0 = search rules in
     let x = c.args in
-    model_stops x.model.now x.plan.now _ c.read-read.ensures _ c.in-Refused.is
-
-pub returns-in-Refused-form : goal.returns-in-Refused-form
-returns-in-Refused-form c =
-    let x = c.args in
-    plan-answers x.model.now x.plan.now _ c.read-read.ensures _ c.in_default.is _ _
-    c.in-Refused-form.is c.read-form.ensures
+    ap pass_numbers told ∙ model_stops x.model.now x.plan.now _ c.read.ensures _ c.in_err-read.was
 
 pub returns : goal.returns
 returns c =
     let x = c.args in
-    plan-answers x.model.now x.plan.now _ c.read-read.ensures _ c.in_default.is _ _
-    c.in_default-form.is c.read-form.ensures
+    plan-answers x.model.now x.plan.now _ c.read.ensures _ c.in_ok-read.was _ c.read-2.ensures

@@ -7,32 +7,34 @@ use Rattle.laws.proofs.Ranges.{end_lt}
 use Rattle.tables.specs.Columns.{column_of}
 use Rattle.tables.proofs.TableLaws.{by_table}
 use Rattle.checks.proofs.RuleOrder.{count-table, from-tables}
+use Rattle.checks.proofs.SizesRead.{read_activities}
 use Rattle.checks.proofs.page.tabulate.Goals as goal
 
-pub finishes-finishes-requires : goal.finishes-finishes-requires
+pub invariant_of-predecessors : goal.invariant_of-predecessors
 unfolding column_of
-finishes-finishes-requires c =
-    let m = model c.args.s.now in
+invariant_of-predecessors c =
     let few = c.requires.activities.1 in
-    let counts = count-table m (plan c.args.r.now) _ few c.counts-counts.ensures in
+    let n = read_activities _ c.counts-sizes.ensures in
     record {
-      few = few;
-      ordered = c.requires.ordered;
-      counts_read = counts;
-      delays_read = by_table m _ _ few c.table-delays.ensures;
+      bytes = λ i _. (c.type_inv.s i).fits;
+      activities = n;
+      few = omega (arith, n, few);
+      delays_read = by_table (model c.args.s.now) _ _ few c.table-delays.ensures;
     }
+
+pub finishes-finishes-requires : goal.finishes-finishes-requires
+finishes-finishes-requires c = record {
+  ordered = c.requires.ordered;
+  counts_read = count-table (model c.args.s.now) (plan c.args.r.now) _ c.requires.activities.1 c.counts-counts.ensures;
+}
 
 pub froms-froms-requires : goal.froms-froms-requires
 unfolding column_of
 froms-froms-requires c =
     let m = model c.args.s.now in
-    let few = c.requires.activities.1 in
-    let ends = by_table m _ _ few c.table-ends.ensures in
-    record {
-      few = few;
-      ends_small = λ b l. omega (arith, ends b l, end_lt c.args.r.now (λ i _. (c.type_inv.r i).fits) b);
-      delays_read = by_table m _ _ few c.table-delays.ensures;
-    }
+    let n = read_activities _ c.counts-sizes.ensures in
+    let ends = by_table m _ _ c.requires.activities.1 c.table-ends.ensures in
+    λ b l. omega (arith, ends b (omega (arith, l, n)), end_lt c.args.r.now (λ i _. (c.type_inv.r i).fits) b)
 
 pub returns : goal.returns
 unfolding column_of

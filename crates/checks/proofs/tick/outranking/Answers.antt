@@ -1,5 +1,6 @@
 use native.Mathlib.Omega.{arith}
 use mathlib.Core.Path.{refl, ◌∙◌}
+use lib.Bits.{or_lt}
 use lib.ListN.{get_or}
 use Rattle.checks.specs.Ticks.{outranking_of}
 use Rattle.bits.proofs.Apart.{lowest_lt, rest_less}
@@ -8,11 +9,6 @@ use Rattle.checks.proofs.tick.outranking.Goals as goal
 
 pub loop-rest-init : goal.loop-rest-init
 loop-rest-init c = (omega arith, omega arith, λ b. refl)
-
-pub offset_bounds-masks-a : goal.offset_bounds-masks-a
-offset_bounds-masks-a c =
-    let l = c.loop-rest in
-    omega (arith, lowest_lt l.rest _ l.invariant.0 c.loop-rest-test.true c.lowest-a.ensures)
 
 pub bounds-masks-a : goal.bounds-masks-a
 bounds-masks-a c =
@@ -29,9 +25,9 @@ loop-rest-preserved c =
     let l = c.loop-rest in
     let x = c.args in (
       c.without-rest.type_inv,
-      c.joined-all.type_inv,
+      or_lt 32 _ _ l.invariant.1 (omega arith),
       λ b.
-          rw (c.without-rest.ensures, c.joined-all.ensures)
+          rw c.without-rest.ensures
           (join_next l.rest _ l.invariant.0 c.loop-rest-test.true c.lowest-a.ensures l.all _
           (λ a. get_or x.masks.now a 0) refl b
           ∙ l.invariant.2 b),

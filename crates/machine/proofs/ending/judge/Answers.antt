@@ -2,47 +2,33 @@
 -- Assumes nothing.
 use native.Mathlib.Omega.{arith}
 use mathlib.Core.Path.{sym, ap, ◌∙◌}
-use Rattle.records.specs.Rows.{sizes_of}
-use Rattle.records.specs.declared.model.Sizes.{Sizes}
 use Rattle.tables.specs.Columns.{column_of}
 use Rattle.tables.proofs.TableLaws.{by_table}
 use Rattle.machine.specs.Played.{Judgement, refused, judged_by}
-use Rattle.machine.proofs.EndingLaws.{owed-first, late-first, none-late}
+use Rattle.machine.proofs.EndingLaws.{first_some, first_none, owed-first, late-first, none-late}
 use Rattle.machine.proofs.ending.judge.Goals as goal
 
-pub first_owing-owing-requires : goal.first_owing-owing-requires
-unfolding sizes_of
-first_owing-owing-requires c =
-    omega (arith, ap (λ (r : Sizes). r.activities) c.counts-sizes.ensures, c.requires.0.few)
-
-pub returns-then-owing-n : goal.returns-then-owing-n
-unfolding sizes_of
-returns-then-owing-n c =
-    let n-is = ap (λ (r : Sizes). r.activities) c.counts-sizes.ensures in
-    let first = owed-first _ _ _ _ c.requires.1 _ n-is _ c.first_owing-owing.ensures c.if-owing-n.true in
+pub returns-in-Some : goal.returns-in-Some
+returns-in-Some c =
+    let here = c.in-Some.ensures in
+    let first = owed-first _ _ _ _ c.requires.1 _ c.requires.0.sizes.0 _ (first_some _ _ _ here) here.0 in
     ap {B = Judgement} refused c.refusal.ensures ∙ ap judged_by (sym first)
 
-pub first_late-late-requires : goal.first_late-late-requires
-unfolding sizes_of
-first_late-late-requires c =
-    omega (arith, ap (λ (r : Sizes). r.activities) c.counts-sizes.ensures, c.requires.0.few)
-
-pub returns-then-late-n : goal.returns-then-late-n
-unfolding sizes_of column_of
-returns-then-late-n c =
+pub returns-in-Some-first_late : goal.returns-in-Some-first_late
+unfolding column_of
+returns-in-Some-first_late c =
     let tabled = c.requires.0 in
-    let n-is = ap (λ (r : Sizes). r.activities) c.counts-sizes.ensures in
-    let first = late-first _ _ _ _ c.requires.1 _ n-is _ _ _ _
+    let here = c.in-Some-first_late.ensures in
+    let first = late-first _ _ _ _ c.requires.1 _ tabled.sizes.0 _ _ _ _
     tabled.release_ticks (by_table _ _ _ tabled.few c.table-periods.ensures)
-    c.first_owing-owing.ensures c.if-owing-n.false c.first_late-late.ensures c.if-late-n.true in
-    ap {B = Judgement} refused c.refusal-then-late-n.ensures ∙ ap judged_by (sym first)
+    (first_none _ _ c.in_default.ensures) (omega arith) (first_some _ _ _ here) here.0 in
+    ap {B = Judgement} refused c.refusal-in-Some-first_late.ensures ∙ ap judged_by (sym first)
 
 pub returns : goal.returns
-unfolding sizes_of column_of
+unfolding column_of
 returns c =
     let tabled = c.requires.0 in
-    let n-is = ap (λ (r : Sizes). r.activities) c.counts-sizes.ensures in
-    let all-kept = none-late _ _ _ _ c.requires.1 _ n-is _ _ _ _
+    let all-kept = none-late _ _ _ _ c.requires.1 _ tabled.sizes.0 _ _ _ _
     tabled.release_ticks (by_table _ _ _ tabled.few c.table-periods.ensures)
-    c.first_owing-owing.ensures c.if-owing-n.false c.first_late-late.ensures c.if-late-n.false in
+    (first_none _ _ c.in_default.ensures) (omega arith) (first_none _ _ c.in_default-first_late.ensures) (omega arith) in
     ap judged_by (sym all-kept)

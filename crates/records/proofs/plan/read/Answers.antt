@@ -1,31 +1,28 @@
 -- `plan::read` meets its contract: the first pass that is refused gives the answer.
 -- Assumes nothing.
-use mathlib.Core.Path.{sym, ◌∙◌}
+use Rattle.std.proofs.Common.{rules}
+use Rattle.std.specs.Prelude.{◌≡◌, Err}
+use mathlib.Core.Path.{sym, ap, ◌∙◌}
+use Rattle.records.specs.Reads.{pass_numbers}
 use Rattle.records.proofs.Forms.{plan-form}
-use Rattle.records.proofs.Reading.{last_holds, last_refused, pass_holds, pass_refused}
+use Rattle.records.proofs.Reading.{pass_holds, pass_refused}
 use Rattle.records.proofs.plan.read.Goals as goal
 
-pub returns-in-Refused : goal.returns-in-Refused
-returns-in-Refused c =
+pub returns-in_err-second_head : goal.returns-in_err-second_head
+returns-in_err-second_head c =
+    let told : c.from_residual.result ≡ Err c.in_err-second_head.field-0.0 = search rules in
     let form = plan-form _ _ _ _ _ c.counts-sizes.ensures c.horizon_holds.ensures c.length-wanted.ensures in
-    pass_refused _ _ _ _ form c.second_head-head.ensures _ c.in-Refused.is
+    ap pass_numbers told ∙ pass_refused _ _ _ _ form c.second_head.ensures _ c.in_err-second_head.was
 
-pub returns-in-Refused-timings : goal.returns-in-Refused-timings
-returns-in-Refused-timings c =
+pub returns-in_err-over_timings : goal.returns-in_err-over_timings
+returns-in_err-over_timings c =
+    let told : c.from_residual-in_err-over_timings.result ≡ Err c.in_err-over_timings.field-0.0 = search rules in
     let form = plan-form _ _ _ _ _ c.counts-sizes.ensures c.horizon_holds.ensures c.length-wanted.ensures in
-    let rows = pass_holds _ _ _ _ form c.second_head-head.ensures c.in_default.is in
-    pass_refused _ _ _ _ rows c.over_timings-timings.ensures _ c.in-Refused-timings.is
-
-pub returns-in-Refused-words : goal.returns-in-Refused-words
-returns-in-Refused-words c =
-    let form = plan-form _ _ _ _ _ c.counts-sizes.ensures c.horizon_holds.ensures c.length-wanted.ensures in
-    let rows = pass_holds _ _ _ _ form c.second_head-head.ensures c.in_default.is in
-    let words = pass_holds _ _ _ _ rows c.over_timings-timings.ensures c.in_default-timings.is in
-    last_refused _ _ (c.over_words-words.ensures ∙ sym words) _ c.in-Refused-words.is
+    let rows = pass_holds _ _ _ _ form c.second_head.ensures c.in_ok-second_head.was in
+    ap pass_numbers told ∙ pass_refused _ _ _ _ rows c.over_timings.ensures _ c.in_err-over_timings.was
 
 pub returns : goal.returns
 returns c =
     let form = plan-form _ _ _ _ _ c.counts-sizes.ensures c.horizon_holds.ensures c.length-wanted.ensures in
-    let rows = pass_holds _ _ _ _ form c.second_head-head.ensures c.in_default.is in
-    let words = pass_holds _ _ _ _ rows c.over_timings-timings.ensures c.in_default-timings.is in
-    last_holds _ _ (c.over_words-words.ensures ∙ sym words) c.in_default-words.is
+    let rows = pass_holds _ _ _ _ form c.second_head.ensures c.in_ok-second_head.was in
+    c.over_words.ensures ∙ sym (pass_holds _ _ _ _ rows c.over_timings.ensures c.in_ok-over_timings.was)

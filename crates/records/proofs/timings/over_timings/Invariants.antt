@@ -1,14 +1,9 @@
--- `timings::over_timings` meets its contract. The invariant: no row before j breaks rule 12. The measure is what is left of
--- them.
+-- `timings::over_timings` meets its contract. The invariant: no row before j breaks rule 12.
 -- Assumes nothing.
-use Prim.Native.Nat.{◌-◌, ◌≤◌}
 use Rattle.schedule.specs.Model.{model}
 use Rattle.laws.proofs.RowLaws.{ClearTo}
 use Rattle.records.specs.Rows.{timing_rule}
 use Rattle.records.proofs.timings.over_timings.Given as goal
 
 abbrev pub invariant-loop-j : goal.invariant-loop-j
-invariant-loop-j l = (l.j ≤ l.threads) × ClearTo (timing_rule (model l.s) l.r l.first) l.j
-
-abbrev pub decreases-loop-j : goal.decreases-loop-j
-decreases-loop-j l = l.threads - l.j
+invariant-loop-j l = ClearTo (timing_rule (model l.s) l.r l.first) l.j

@@ -28,7 +28,7 @@ column-is which s q table formed e = by_table (model s) (entry_of which s q) tab
 
 pub overflow_mul-capacity : goal.overflow_mul-capacity
 overflow_mul-capacity c =
-    record { fits = product_fits _ _ (omega (arith, c.struct_known-2-1.given)) (omega (arith, c.struct_known-3-1.given)) }
+    record { fits = product_fits _ _ (omega arith) (omega arith) }
 
 pub core_ticks-requires : goal.core_ticks-requires
 unfolding sizes_of
@@ -70,9 +70,9 @@ returns c =
     let last = c.latest.ensures ∙ ap (λ (y : Sizes). greatest y.activities (λ a. get_or x.ends.now a 0)) e in
     let first = c.least_release-first.ensures
     ∙ ap (λ (y : Sizes). least y.threads (choice x.q.now).release) e in
-    let span = c.less.ensures ∙ ap₂ ◌-◌ last first in
+    let span = c.saturating_sub.ensures ∙ ap₂ ◌-◌ last first in
     let same : ◌≡◌ {A = Answers.Figures} _ _ =
-    λ i. record { usage = c.core_ticks.result; capacity = room i; makespan = c.less.result } in
+    λ i. record { usage = c.core_ticks.result; capacity = room i; makespan = c.saturating_sub.result } in
     same
     ∙ figures_are m (choice x.q.now) x.ends.now durations widths _ _ c.requires
     (column-is Column.ChosenDuration x.s.now x.q.now durations formed c.table-durations.ensures)

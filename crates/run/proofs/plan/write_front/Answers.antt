@@ -37,7 +37,6 @@ write_activities-requires c =
           arith,
           started c.starts_from-firsts.result _ c.starts_from-firsts.ensures a (omega (arith, l, em, c.requires.formed.activities.1)),
           start_le grid c.counts-sizes.result.horizon a,
-          c.struct_known-1.given,
         ),
         c.requires.small a (omega (arith, em)),
       ),

@@ -1,5 +1,5 @@
 use native.Mathlib.Omega.{arith}
-use mathlib.Core.Path.{◌≡◌, refl, ap, ◌∙◌}
+use mathlib.Core.Path.{◌≡◌, ap, ◌∙◌}
 use Rattle.schedule.specs.Choice.{choice}
 use Rattle.schedule.specs.Plan.{plan_thread_row, pair_rows}
 use Rattle.fields.specs.Put.{put}
@@ -9,31 +9,19 @@ use Rattle.records.proofs.WriteLaws.{pairs_start, pairs_next}
 use Rattle.run.proofs.plan.write_threads.Goals as goal
 
 pub loop-j-init : goal.loop-j-init
-loop-j-init c = (omega arith, refl, pairs_start _ _ _ _)
-
-pub overflow_add-j : goal.overflow_add-j
-overflow_add-j c = omega arith
-
-pub loop-j-smaller : goal.loop-j-smaller
-loop-j-smaller c = omega arith
+loop-j-init c = pairs_start _ _ _ _
 
 pub loop-j-preserved : goal.loop-j-preserved
 unfolding timing
 loop-j-preserved c =
     let l = c.loop-j in
-    let row = c.timing_at.ensures in (
-      omega arith,
-      c.put_thread_row.auto.out ∙ l.invariant.1,
-      pairs_next _ l.j _ _ _ _ _ l.out _ (omega arith) (ap (λ (r : Timing). r.release) row)
-          (ap (λ (r : Timing). r.period) row) l.invariant.2 c.put_thread_row.ensures,
-    )
-
-pub shape_of-out : goal.shape_of-out
-shape_of-out c = c.loop-j.invariant.1
+    let row = c.timing_at.ensures in
+    pairs_next _ l.j _ _ _ _ _ l.out _ (omega arith) (ap (λ (r : Timing). r.release) row)
+    (ap (λ (r : Timing). r.period) row) l.invariant c.put_thread_row.ensures
 
 pub returns : goal.returns
 returns c =
     let x = c.args in
     let q = choice x.q.now in
     let whole : c.loop-j.j ≡ x.n = omega arith in
-    c.loop-j.invariant.2 ∙ ap (λ k. put (plan_thread_row 0) (pair_rows k q.release q.period) x.out.now) whole
+    c.loop-j.invariant ∙ ap (λ k. put (plan_thread_row 0) (pair_rows k q.release q.period) x.out.now) whole

@@ -16,7 +16,7 @@ pub returns-in-Delay : goal.returns-in-Delay
 unfolding activity_row_of
 returns-in-Delay c =
     rw c.in-Delay.is
-    (c.wide.ensures ∙ ap (λ (r : ActivityRow). r.delay) c.activity_row.ensures)
+    (c.from.ensures ∙ ap (λ (r : ActivityRow). r.delay) c.activity_row.ensures)
 
 pub returns-in-Temporal : goal.returns-in-Temporal
 unfolding activity_row_of
@@ -35,14 +35,14 @@ returns-in-ByData c =
     ∙ ap (λ (r : ActivityRow). among_activities (model x.s.now) (bit r.data_mask)) c.activity_row-in-ByData.ensures)
 
 pub returns-in-Width : goal.returns-in-Width
-returns-in-Width c = rw c.in-Width.is c.width.ensures
+returns-in-Width c = rw c.in-Width.is (c.from-in-Width.ensures ∙ c.width.ensures)
 
 pub returns-in-Priority : goal.returns-in-Priority
 unfolding thread_row_of
 returns-in-Priority c =
     let x = c.args in
     rw c.in-Priority.is
-    (c.wide-in-Priority.ensures
+    (c.from-in-Priority.ensures
     ∙ ap (λ (r : ThreadRow). r.priority) c.thread_row.ensures
     ∙ ap (model x.s.now).priority c.owner.ensures)
 
@@ -51,7 +51,7 @@ unfolding timing
 returns-in-ChosenRelease c =
     let x = c.args in
     rw c.in-ChosenRelease.is
-    (c.wide-in-ChosenRelease.ensures
+    (c.from-in-ChosenRelease.ensures
     ∙ ap (λ (r : Timing). r.release) c.thread_row-in-ChosenRelease.ensures
     ∙ ap (choice x.second.now).release c.owner-in-ChosenRelease.ensures)
 
@@ -60,21 +60,21 @@ unfolding timing
 returns-in-ChosenPeriod c =
     let x = c.args in
     rw c.in-ChosenPeriod.is
-    (c.wide-in-ChosenPeriod.ensures
+    (c.from-in-ChosenPeriod.ensures
     ∙ ap (λ (r : Timing). r.period) c.thread_row-in-ChosenPeriod.ensures
     ∙ ap (choice x.second.now).period c.owner-in-ChosenPeriod.ensures)
 
 pub returns-in-ChosenDuration : goal.returns-in-ChosenDuration
-returns-in-ChosenDuration c = rw c.in-ChosenDuration.is (c.wide-in-ChosenDuration.ensures ∙ c.duration.ensures)
+returns-in-ChosenDuration c = rw c.in-ChosenDuration.is (c.from-in-ChosenDuration.ensures ∙ c.duration.ensures)
 
 pub returns-in-PlanStart : goal.returns-in-PlanStart
 unfolding span_of
 returns-in-PlanStart c =
     rw c.in-PlanStart.is
-    (c.wide-in-PlanStart.ensures ∙ ap (λ (r : Span). r.start) c.activity_row-in-PlanStart.ensures)
+    (c.from-in-PlanStart.ensures ∙ ap (λ (r : Span). r.start) c.activity_row-in-PlanStart.ensures)
 
 pub returns-in-PlanEnd : goal.returns-in-PlanEnd
 unfolding span_of
 returns-in-PlanEnd c =
     rw c.in-PlanEnd.is
-    (c.wide-in-PlanEnd.ensures ∙ ap (λ (r : Span). r.end) c.activity_row-in-PlanEnd.ensures)
+    (c.from-in-PlanEnd.ensures ∙ ap (λ (r : Span). r.end) c.activity_row-in-PlanEnd.ensures)

@@ -20,7 +20,6 @@ pub loop-t-init : goal.loop-t-init
 unfolding sizes_of
 loop-t-init c =
     let e = ap (λ (y : Sizes). y.horizon) c.counts-sizes.ensures in (
-      omega arith,
       e,
       omega (arith, e, horizon_lt c.args.s.now (λ i _. (c.type_inv.s i).fits)),
       refl,
@@ -31,18 +30,17 @@ pub tally-requires : goal.tally-requires
 tally-requires c =
     let l = c.loop-t in
     let grid = c.words-grid.result.now in
-    let few : l.t < 65536 = omega (arith, l.invariant.0, l.invariant.2) in
-    (l.invariant.3, few_counted l.counted l.t (λ t i. bit (word_in grid t) i) few l.invariant.3 l.invariant.4)
+    let few : l.t < 65536 = omega (arith, l.invariant.1) in
+    (l.invariant.2, few_counted l.counted l.t (λ t i. bit (word_in grid t) i) few l.invariant.2 l.invariant.3)
 
 pub loop-t-preserved : goal.loop-t-preserved
 loop-t-preserved c =
     let l = c.loop-t in
     let grid = c.words-grid.result.now in (
-      omega arith,
+      l.invariant.0,
       l.invariant.1,
-      l.invariant.2,
       c.tally.ensures.sized,
-      tallied_next (word_in grid) l.t _ _ _ c.word.ensures l.invariant.4 c.tally.ensures,
+      tallied_next (word_in grid) l.t _ _ _ c.word.ensures l.invariant.3 c.tally.ensures,
     )
 
 pub returns : goal.returns
@@ -51,9 +49,9 @@ returns c =
     let l = c.loop-t in
     let words = c.words-grid in
     let x = c.args in
-    let whole : l.t ≡ (model x.s.now).horizon = omega (arith, l.invariant.0, l.invariant.1) in
-    table-whole 32 _ l.counted l.invariant.3 (λ i h.
-    l.invariant.4 i h
+    let whole : l.t ≡ (model x.s.now).horizon = omega (arith, l.invariant.0) in
+    table-whole 32 _ l.counted l.invariant.2 (λ i h.
+    l.invariant.3 i h
     ∙ ap (λ k. count k (λ v. bit (word_in words.result.now v) i)) whole
     ∙ count_ext _ _ _ (λ v _.
     ap (λ (g : List ℕ). bit (word_in g v) i) words.ensures.0 ∙ ap (λ (w : ℕ). bit w i) (word_behind x.r.now v)))

@@ -1,6 +1,6 @@
 -- `tables::counts::counts` meets its contract: the table counts the ticks passed.
 -- Assumes nothing.
-use Prim.Native.Nat.{ℕ, ◌≤◌, ◌<◌, ◌-◌}
+use Prim.Native.Nat.{ℕ, ◌<◌}
 use mathlib.Core.Path.{◌≡◌}
 use lib.ListN.{length, get_or}
 use Rattle.schedule.specs.Bounded.{bit, count}
@@ -10,8 +10,5 @@ use Rattle.tables.proofs.counts.counts.Given as goal
 
 abbrev pub invariant-loop-t : goal.invariant-loop-t
 invariant-loop-t l =
-    (l.t ≤ l.horizon) × (l.horizon ≡ (model l.s).horizon) × (l.horizon < 65536) × (length l.counted ≡ 32)
+    (l.horizon ≡ (model l.s).horizon) × (l.horizon < 65536) × (length l.counted ≡ 32)
     × ((i : ℕ) → i < 32 → get_or l.counted i 0 ≡ count l.t (λ v. bit (word_in l.grid v) i))
-
-abbrev pub decreases-loop-t : goal.decreases-loop-t
-decreases-loop-t l = l.horizon - l.t

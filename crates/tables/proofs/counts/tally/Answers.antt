@@ -9,11 +9,6 @@ use Rattle.tables.proofs.counts.tally.Goals as goal
 pub loop-rest-init : goal.loop-rest-init
 loop-rest-init c = (omega arith, c.requires.0, λ i l. refl)
 
-pub offset_bounds-counts-a : goal.offset_bounds-counts-a
-offset_bounds-counts-a c =
-    let l = c.loop-rest in
-    omega (arith, l.invariant.1, lowest_lt l.rest _ l.invariant.0 c.loop-rest-test.true c.lowest-a.ensures)
-
 pub bounds-counts-a : goal.bounds-counts-a
 bounds-counts-a c =
     let l = c.loop-rest in

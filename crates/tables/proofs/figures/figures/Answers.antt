@@ -22,7 +22,7 @@ use Rattle.tables.proofs.figures.figures.Goals as goal
 
 pub overflow_mul-capacity : goal.overflow_mul-capacity
 overflow_mul-capacity c =
-    record { fits = product_fits _ _ (omega (arith, c.struct_known-1.given)) (omega (arith, c.struct_known-2-1.given)) }
+    record { fits = product_fits c.counts-sizes.result.cores c.counts-sizes.result.horizon (omega arith) (omega arith) }
 
 pub returns : goal.returns
 unfolding figures sizes_of
@@ -43,5 +43,5 @@ returns c =
     let room = ap (λ (y : Sizes). y.cores * y.horizon) e in
     let last = c.latest_end-latest.ensures ∙ ap (λ (y : Sizes). greatest y.activities p.end) e in
     let first = c.least_release-first.ensures ∙ ap (λ (y : Sizes). least y.threads p.release) e in
-    let span = c.less.ensures ∙ ap₂ ◌-◌ last first in
+    let span = c.saturating_sub.ensures ∙ ap₂ ◌-◌ last first in
     λ i. record { usage = used i; capacity = room i; makespan = span i }

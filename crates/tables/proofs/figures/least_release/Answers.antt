@@ -15,27 +15,18 @@ returns-then-n-eq0 c =
 pub loop-j-init : goal.loop-j-init
 loop-j-init c =
     let x = c.args in
-    (omega arith, omega arith, c.release_of-first.ensures ∙ sym (least_start (releases_of x.whose x.r.now)))
-
-pub overflow_add-j : goal.overflow_add-j
-overflow_add-j c = omega arith
-
-pub loop-j-smaller : goal.loop-j-smaller
-loop-j-smaller c = omega arith
+    c.release_of-first.ensures ∙ sym (least_start (releases_of x.whose x.r.now))
 
 pub loop-j-preserved : goal.loop-j-preserved
 loop-j-preserved c =
     let l = c.loop-j in
-    let x = c.args in (
-      omega arith,
-      omega arith,
-      c.smaller-first.ensures
-          ∙ ap₂ min l.invariant.2 c.release_of.ensures
-          ∙ sym (least_next l.j (releases_of x.whose x.r.now) l.invariant.0),
-    )
+    let x = c.args in
+    c.min-first.ensures
+    ∙ ap₂ min l.invariant c.release_of.ensures
+    ∙ sym (least_next l.j (releases_of x.whose x.r.now) (omega arith))
 
 pub returns : goal.returns
 returns c =
     let x = c.args in
     let whole : c.loop-j.j ≡ x.n = omega arith in
-    c.loop-j.invariant.2 ∙ ap (λ k. least k (releases_of x.whose x.r.now)) whole
+    c.loop-j.invariant ∙ ap (λ k. least k (releases_of x.whose x.r.now)) whole

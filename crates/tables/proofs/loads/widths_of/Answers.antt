@@ -1,65 +1,40 @@
+-- `tables::loads::widths_of` meets its contract: a plane for each digit of the widest, and the others are empty.
+-- Assumes nothing.
+use Prim.Native.Nat.{ℕ, ◌^◌, ◌≤◌}
 use native.Mathlib.Omega.{arith}
 use mathlib.Core.Path.{◌≡◌, ◌∙◌}
+use lib.Dec.{ltb}
+use lib.ListN.{get_or}
+use Rattle.std.proofs.Common.{rules}
+use Rattle.laws.proofs.Lowest.{lowest_is}
 use Rattle.laws.proofs.Ranges.{width_lt}
+use Rattle.schedule.specs.Bounded.{bit, word_of}
 use Rattle.schedule.specs.Model.{model}
-use Rattle.tables.specs.Loads.{plane_of, depth_of, widths_of}
-use Rattle.tables.proofs.TableLaws.{filled_none, filled_next}
 use Rattle.tables.specs.Columns.{column_of}
-use Rattle.tables.proofs.LoadLaws.{depth_few, depth_is, plane_is, planes_whole}
+use Rattle.tables.specs.Loads.{plane_of, depth_of, widths_of}
+use Rattle.tables.proofs.LoadLaws.{depth_is, plane_is, planes_whole}
 use Rattle.tables.proofs.loads.widths_of.Goals as goal
 
-pub widest-requires : goal.widest-requires
-widest-requires c = omega (arith, c.rows-n.ensures)
-
-pub loop-j-init : goal.loop-j-init
-unfolding column_of
-loop-j-init c =
-    let s = c.args.s.now in
-    let narrow = width_lt s (λ i _. (c.type_inv.s i).fits) in
-    let depth : c.digits-depth.result ≡ depth_of (model s) =
-    depth_is (model s) narrow _ c.widest.result _ _ c.rows-n.ensures
-    c.table-column.ensures c.widest.ensures c.digits-depth.ensures in
-    (omega arith, omega (arith, depth, depth_few (model s) narrow), depth, filled_none _)
-
-pub plane-requires : goal.plane-requires
-plane-requires c = omega (arith, c.rows-n.ensures)
-
-pub overflow_cast-planes : goal.overflow_cast-planes
-overflow_cast-planes c = omega arith
-
-pub offset_bounds-planes-j : goal.offset_bounds-planes-j
-offset_bounds-planes-j c = let l = c.loop-j in omega (arith, l.invariant.1)
-
-pub bounds-planes-j : goal.bounds-planes-j
-bounds-planes-j c = let l = c.loop-j in omega (arith, l.invariant.1)
-
-pub overflow_add-j : goal.overflow_add-j
-overflow_add-j c = omega arith
-
-pub loop-j-smaller : goal.loop-j-smaller
-loop-j-smaller c = omega arith
-
-pub loop-j-preserved : goal.loop-j-preserved
-unfolding column_of
-loop-j-preserved c =
-    let l = c.loop-j in
-    let table = c.table-column in
-    let rows = c.rows-n in
-    let narrow = width_lt c.args.s.now (λ i _.
-    (c.type_inv.s i).fits) in (
-      omega arith,
-      l.invariant.1,
-      l.invariant.2,
-      filled_next (plane_of (model c.args.s.now)) l.j _ _ (omega (arith, l.invariant.1)) l.invariant.3
-          (c.plane.ensures ∙ plane_is (model c.args.s.now) narrow _ l.j _ rows.ensures table.ensures),
-    )
+pub table-requires : goal.table-requires
+table-requires c =
+    let few : c.digits-depth.result ≤ 8 =
+    omega (arith, c.digits-depth.ensures, (lowest_is 8 (λ d. ltb c.greatest.result (2 ^ d))).bound) in
+    search rules
 
 pub returns : goal.returns
-unfolding widths_of
+unfolding widths_of column_of
 returns c =
-    let l = c.loop-j in
     let s = c.args.s.now in
+    let m = model s in
+    let n = c.rows-n in
+    let column = c.table-column in
     let narrow = width_lt s (λ i _. (c.type_inv.s i).fits) in
-    let whole : l.j ≡ c.digits-depth.result = omega arith in
-    let planes = planes_whole (model s) narrow l.j _ (whole ∙ l.invariant.2) l.invariant.3 in
-    λ i. record { planes = planes i; depth = l.invariant.2 i }
+    let widest = c.greatest.ensures (λ a. get_or column.result a 0) (λ a y l p. search rules) in
+    let depth : c.digits-depth.result ≡ depth_of m =
+    depth_is m narrow n.result c.greatest.result _ column.result n.ensures column.ensures widest c.digits-depth.ensures in
+    let plane : (j y : ℕ) → y ≡ word_of n.result (λ a. bit (get_or column.result a 0) j) → y ≡ plane_of m j =
+    λ j y e. e ∙ plane_is m narrow n.result j column.result n.ensures column.ensures in
+    let planes =
+    planes_whole m narrow c.digits-depth.result c.table.result depth
+    (c.table.ensures (plane_of m) (λ j y l p. plane j y (search rules))) in
+    λ i. record { planes = planes i; depth = depth i }

@@ -7,10 +7,10 @@ use Rattle.text.proofs.TextLaws.{length-number}
 use Rattle.text.proofs.LateLaws.{dash-end, length-figure}
 use Rattle.text.proofs.late.row_length.Goals as goal
 
-pub returns-then-row : goal.returns-then-row
-returns-then-row c = omega (arith, ap length (dash-end c.args.row c.if-row.true))
+pub returns-in-Dash : goal.returns-in-Dash
+returns-in-Dash c = omega (arith, ap length (dash-end c.in-Dash.is))
 
-pub returns : goal.returns
-returns c =
-    let x = c.args in
-    omega (arith, length-figure x.row c.if-row.false, length-number x.row.size 10)
+pub returns-in-Figure : goal.returns-in-Figure
+returns-in-Figure c =
+    let f = c.in-Figure in
+    omega (arith, length-figure f.is, length-number f.size 10, ap length c.minus.ensures.sign)

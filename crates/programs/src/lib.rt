@@ -1,0 +1,102 @@
+// What the three programs share: they read standard input whole, and print on standard output what is made of it. Memory is
+// fixed: what is read and what is printed stand in arrays.
+#![tactic(auto)]
+
+ghost use Rattle.std.specs.Prelude.{◌≡◌, ◌+◌, ◌^◌, ◌≤◌, ◌<◌, List, ℕ, length, take, IfOk, IfErr};
+ghost use Rattle.std.specs.Io.KnownBytes.{Appends, Consumes, IsAtEnd};
+
+use input::FillError;
+use std::io::{Read, Write};
+use std::marker::Model;
+use std::{fmt, io};
+
+// The bytes at the front of an array.
+#[derive(Drop)]
+pub struct Front<const N: usize> {
+    bytes: [u8; N],
+    len: usize,
+}
+
+impl<const N: usize> Model for Front<N> {
+    ghost Value = { List ℕ };
+
+    ghost view = { λ f. take f.len f.bytes };
+
+    ghost invariant = { λ f. f.len ≤ length f.bytes };
+}
+
+impl<const N: usize> Front<N> {
+    // The first bytes of an array, or all where there are fewer.
+    pub fn new(bytes: [u8; N], len: usize) -> Front<N>
+        ensures { result ≡ take len bytes.entry }
+    {
+        Front {
+            bytes,
+            len: len.min(N),
+        }
+    }
+
+    // All that a reader has left, or as much as fits.
+    pub fn read<R: Read>(reader: &mut R) -> Result<Front<N>, FillError>
+        ensures bytes { IfOk result (λ front. Consumes (R.remaining reader.old) (R.remaining reader.new) front) }
+        ensures end { IfOk result (λ front. length front < N → IsAtEnd (R.remaining reader.new)) }
+        ensures failed { IfErr result (λ e. (came : List ℕ) × (length came ≡ e.read)
+            × Consumes (R.remaining reader.old) (R.remaining reader.new) came) }
+    {
+        let mut bytes = [0u8; N];
+        let len = input::fill(reader, &mut bytes)?;
+        Ok(Front { bytes, len })
+    }
+
+    pub fn as_bytes(&self) -> &[u8]
+        ensures value { result.now ≡ self.now }
+        ensures within { length result.now ≤ N }
+    {
+        &self.bytes[..self.len]
+    }
+}
+
+// What went wrong: a read, or a write.
+#[derive(Clone, Copy, Debug, Drop)]
+pub enum Failed {
+    Input(io::Error),
+    Output(io::Error),
+}
+
+impl fmt::Display for Failed {
+    fn fmt<W: fmt::Write>(&self, f: &mut fmt::Formatter<W>) -> fmt::Result {
+        match self {
+            Failed::Input(e) => write!(f, "standard input: {e}"),
+            Failed::Output(e) => write!(f, "standard output: {e}"),
+        }
+    }
+}
+
+// What a program prints, at most OUT bytes, of what it reads, at most the first IN bytes of its input.
+pub trait Program<const IN: usize, const OUT: usize> {
+    ghost printed: { List ℕ → List ℕ };
+
+    fn answer(input: &Front<IN>) -> Front<OUT>
+        ensures { result ≡ printed input.now };
+
+    // The two arrays have room in memory.
+    ghost room: { IN + OUT < 2 ^ 62 };
+}
+
+// Reads to the end or as much as fits, and writes what the program prints of it. Where a read fails nothing is written.
+pub fn run<P: Program<IN, OUT>, R: Read, W: Write, const IN: usize, const OUT: usize>(
+    reader: &mut R,
+    writer: &mut W,
+) -> Result<(), Failed>
+    ensures { IfOk result (λ _. (read : List ℕ) × Consumes (R.remaining reader.old) (R.remaining reader.new) read
+        × (length read < IN → IsAtEnd (R.remaining reader.new))
+        × Appends (W.contents writer.old) (W.contents writer.new) (P.printed read)) }
+{
+    match Front::read(reader) {
+        Ok(input) => {
+            let printed = P::answer(&input);
+            writer.write_all(printed.as_bytes()).map_err(Failed::Output)
+        }
+        Err(e) => Err(Failed::Input(e.error)),
+    }
+}
