@@ -10,7 +10,7 @@ ghost use Rattle.schedule.specs.Bounded.{with_bit, without_bit};
 pub fn has(word: u32, b: u32) -> bool
     ensures { result ≡ bit word b }
 {
-    if b < 32 { (word >> b) & 1 == 1 } else { false }
+    b < 32 && (word >> b) & 1 == 1
 }
 
 // The word with bit b set; unchanged for b from 32 on.
@@ -31,21 +31,22 @@ pub fn without(word: u32, b: u32) -> u32
 pub fn ones(word: u32) -> u32
     ensures { result ≡ ones word }
 {
-    u32::count_ones(word)
+    word.count_ones()
 }
 
-// The number of the lowest bit that is set, 32 where none is.
+// The number of the lowest bit that is set, 32 where none is: the contract has the number 32, which no bit has, and walks over
+// bits ask for none of an empty word. Such a walk takes the lowest bit away until the word is 0, so it counts no index.
 pub fn lowest(word: u32) -> u32
     ensures { result ≡ lowest 32 (bit word) }
 {
-    u32::trailing_zeros(word)
+    word.trailing_zeros()
 }
 
 // The word with the n lowest bits set, all 32 for n from 32 on.
 pub fn below(n: u32) -> u32
     ensures { result ≡ word_of 32 (λ b. ltb b n) }
 {
-    if n < 32 { (1 << n) - 1 } else { 0xffff_ffff }
+    if n < 32 { (1 << n) - 1 } else { u32::MAX }
 }
 
 // The word with bit b set where the answer is yes.

@@ -1,24 +1,15 @@
 -- The editing state of the exports, read, written and handed on.
 -- Assumes nothing.
 use Prim.Native.Nat.{ℕ}
-use mathlib.Core.Bool.{Bool, true, false, cond}
-use mathlib.Core.Path.{◌≡◌, refl, sym, ap, ◌∙◌}
+use mathlib.Core.Bool.{Bool, true, false}
+use mathlib.Core.Path.{◌≡◌, refl}
 use Rattle.schedule.specs.Answers.{Answer, accepted, refused}
-use Rattle.edit_rules.specs.declared.Edit.{Edit}
 use Rattle.std.specs.Prelude.{Some, None}
 use Rattle.edit_rules.specs.Keeping.{Asked}
 use Rattle.edit_rules.specs.Edits.{edit_answer, if_unrefused}
 use Rattle.edit_rules.specs.Keeping.{nothing_asked, asking, edit_state, ask_state, keep_answer, keep_state}
 use Rattle.capi.specs.declared.GridEditing.{GridEditing}
 use Rattle.capi.specs.States.{edit_of, editing_of, with_asked, edited_state, HandedOn}
-
--- what is asked is written, a mark as 1 and a clear as 2
-pub written : (g : GridEditing) (asked : Asked) (e : Edit) → asked ≡ Some e → (on : Bool) → e.on ≡ on → (n : ℕ) → n ≡ cond on 1 2
-    → record { asked = n; activity = e.activity; tick = e.tick; total = g.total; counts = g.counts } ≡ with_asked g asked
-written g asked e is on was n number =
-    ap (λ (k : ℕ). record { asked = k; activity = e.activity; tick = e.tick; total = g.total; counts = g.counts })
-    (number ∙ ap (λ (b : Bool). cond b 1 2) (sym was))
-    ∙ ap (with_asked g) (sym is)
 
 -- ---- a state that is handed on
 

@@ -5,16 +5,16 @@ ghost use Rattle.std.specs.Prelude.{◌≡◌, cond, length, None};
 ghost use Rattle.schedule.specs.Answers.{accepted, refused, plain_verdict, strict_verdict, run_answer, run_buffer};
 ghost use Rattle.schedule.specs.Report.{report_answer, report_rows};
 ghost use Rattle.schedule.specs.Exchange.{pair_part, file_answer};
-ghost use Rattle.schedule.specs.Numbers.{refusal_numbers, numbers_of, verdict_numbers, run_numbers, wrap_refusal, part_numbers};
+ghost use Rattle.schedule.specs.Numbers.{refusal_numbers, numbers_of, figure_numbers, verdict_numbers, run_numbers, wrap_refusal, part_numbers};
 ghost use Rattle.edit_rules.specs.Edits.{marking, clearing, edit_answer, edit_bytes};
-ghost use Rattle.edit_rules.specs.EditNumbers.{edited_numbers, kept_numbers, told_numbers};
+ghost use Rattle.edit_rules.specs.EditNumbers.{told_numbers};
 ghost use Rattle.edit_rules.specs.Keeping.{asking, ask_answer, ask_state, keep_answer, keep_bytes};
-ghost use Rattle.capi.specs.Exported.{refusal_exported, verdict_exported, run_exported, part_exported, edit_exported, ask_exported};
+ghost use Rattle.capi.specs.Exported.{refusal_exported, accepted_exported, verdict_exported, run_exported, part_exported, done_numbers, edit_exported, ask_exported};
 ghost use Rattle.capi.specs.States.{edit_of, editing_of, with_asked, edited_state};
 
-use edit_rules::{Edit, Edited, Editing, Kept, Step, Told};
+use edit_rules::{Edit, Editing, Told};
 use numbers::{refusal_numbers, wrap_number};
-use schedule::{Numbered, Part, Refusal, RunVerdict, Side, Verdict, WrapRefused};
+use schedule::{Figures, Numbered, Part, Refusal, RunVerdict, Side, Verdict, WrapRefused};
 
 // Number 0 for accepted, then usage, c times H, makespan, and the length of the run's plan (0 for a check and an ask), or zeros for
 // a mark, a clear or a keep; otherwise the refusal's number, A, B, 0, 0.
@@ -40,7 +40,8 @@ pub struct GridPart {
     pub length: u64,
 }
 
-// An editing state. What is asked: 1 for a mark and 2 for a clear of `activity` at `tick`; with any other number nothing is asked.
+// An editing state. What is asked, for C by a number: 1 for a mark and 2 for a clear of `activity` at `tick`; with any other number
+// nothing is asked.
 // No call looks at `total` and `counts`, and each hands them back as they were given.
 #[repr(C)]
 #[derive(Clone, Copy)]
@@ -60,111 +61,124 @@ pub struct GridStep {
     pub state: GridEditing,
 }
 
-fn refusal(x: Refusal) -> GridAnswer
-    ensures { result ≡ refusal_exported (refusal_numbers x) }
-{
-    numbered(refusal_numbers(x))
-}
+// A refusal's number and place.
+impl From<Numbered> for GridAnswer {
+    ghost from_gives = { λ said answer. answer ≡ refusal_exported (numbers_of said) };
 
-fn numbered(said: Numbered) -> GridAnswer
-    ensures { result ≡ refusal_exported (numbers_of said) }
-{
-    GridAnswer {
-        number: said.number,
-        first: said.a,
-        second: said.b,
-        third: 0,
-        length: 0,
-    }
-}
-
-fn check_answer(v: Verdict) -> GridAnswer
-    ensures { result ≡ verdict_exported (verdict_numbers v) }
-{
-    match v {
-        Ok(f) => GridAnswer {
-            number: 0,
-            first: f.usage,
-            second: f.capacity,
-            third: f.makespan,
-            length: 0,
-        },
-        Err(x) => refusal(x),
-    }
-}
-
-fn run_answer(v: RunVerdict) -> GridAnswer
-    ensures { result ≡ run_exported (run_numbers v) }
-{
-    match v {
-        Ok(w) => {
-            let f = w.figures;
-            GridAnswer {
-                number: 0,
-                first: f.usage,
-                second: f.capacity,
-                third: f.makespan,
-                length: w.length,
-            }
-        }
-        Err(x) => refusal(x),
-    }
-}
-
-fn edit_answer(v: Edited) -> GridAnswer
-    ensures { result ≡ edit_exported (edited_numbers v) }
-{
-    match v {
-        Ok(()) => GridAnswer {
-            number: 0,
-            first: 0,
-            second: 0,
+    fn from(said: Numbered) -> GridAnswer {
+        GridAnswer {
+            number: said.number,
+            first: said.a,
+            second: said.b,
             third: 0,
             length: 0,
-        },
-        Err(why) => numbered(edits::reason_numbers(why)),
+        }
     }
 }
 
-fn keep_answer(v: Kept) -> GridAnswer
-    ensures { result ≡ edit_exported (kept_numbers v) }
-{
-    match v {
-        Ok(()) => edit_answer(Ok(())),
-        Err(why) => numbered(edits::unkept_numbers(why)),
+// A refusal by its case, through its number and place.
+impl From<Refusal> for GridAnswer {
+    ghost from_gives = { λ x answer. answer ≡ refusal_exported (refusal_numbers x) };
+
+    fn from(x: Refusal) -> GridAnswer {
+        GridAnswer::from(refusal_numbers(x))
     }
 }
 
-fn ask_answer(v: Told) -> GridAnswer
-    ensures { result ≡ ask_exported (told_numbers v) }
+// The three figures, with the length of a run's plan.
+fn accepted(f: Figures, length: u32) -> GridAnswer
+    ensures { result ≡ accepted_exported (figure_numbers f) length }
 {
-    match v {
-        Ok(verdict) => check_answer(verdict),
-        Err(why) => numbered(edits::reason_numbers(why)),
-    }
-}
-
-fn part_refusal(x: WrapRefused) -> GridPart
-    ensures { result ≡ part_exported (refused (wrap_refusal x)) }
-{
-    GridPart {
-        number: wrap_number(x.why),
-        zero: 0,
-        record: x.index as u64,
-        offset: 0,
-        length: 0,
-    }
-}
-
-fn part(x: Part) -> GridPart
-    ensures { result ≡ part_exported (accepted (part_numbers x)) }
-{
-    GridPart {
+    GridAnswer {
         number: 0,
-        zero: 0,
-        record: x.index as u64,
-        offset: x.offset as u64,
-        length: x.length as u64,
+        first: f.usage,
+        second: f.capacity,
+        third: f.makespan,
+        length,
+    }
+}
+
+// What a check answers.
+impl From<Verdict> for GridAnswer {
+    ghost from_gives = { λ v answer. answer ≡ verdict_exported (verdict_numbers v) };
+
+    fn from(v: Verdict) -> GridAnswer {
+        match v {
+            Ok(f) => accepted(f, 0),
+            Err(x) => GridAnswer::from(x),
+        }
+    }
+}
+
+// What a run or a report answers.
+impl From<RunVerdict> for GridAnswer {
+    ghost from_gives = { λ v answer. answer ≡ run_exported (run_numbers v) };
+
+    fn from(v: RunVerdict) -> GridAnswer {
+        match v {
+            Ok(w) => accepted(w.figures, w.length),
+            Err(x) => GridAnswer::from(x),
+        }
+    }
+}
+
+// What a mark, a clear or a keep answers.
+impl From<Result<(), Numbered>> for GridAnswer {
+    ghost from_gives = { λ answer exported. exported ≡ edit_exported (done_numbers answer) };
+
+    fn from(answer: Result<(), Numbered>) -> GridAnswer {
+        match answer {
+            Ok(()) => GridAnswer {
+                number: 0,
+                first: 0,
+                second: 0,
+                third: 0,
+                length: 0,
+            },
+            Err(said) => GridAnswer::from(said),
+        }
+    }
+}
+
+// What an ask answers: as a check, or with the refusal of the edit.
+impl From<Told> for GridAnswer {
+    ghost from_gives = { λ v answer. answer ≡ ask_exported (told_numbers v) };
+
+    fn from(v: Told) -> GridAnswer {
+        match v {
+            Ok(verdict) => GridAnswer::from(verdict),
+            Err(why) => GridAnswer::from(edits::reason_numbers(why)),
+        }
+    }
+}
+
+// A refusal of wrapped records, with the record's number in A.
+impl From<WrapRefused> for GridPart {
+    ghost from_gives = { λ x part. part ≡ part_exported (refused (wrap_refusal x)) };
+
+    fn from(x: WrapRefused) -> GridPart {
+        GridPart {
+            number: wrap_number(x.why),
+            zero: 0,
+            record: x.index as u64,
+            offset: 0,
+            length: 0,
+        }
+    }
+}
+
+// The record that stands or is chosen.
+impl From<Part> for GridPart {
+    ghost from_gives = { λ x part. part ≡ part_exported (accepted (part_numbers x)) };
+
+    fn from(x: Part) -> GridPart {
+        GridPart {
+            number: 0,
+            zero: 0,
+            record: x.index as u64,
+            offset: x.offset as u64,
+            length: x.length as u64,
+        }
     }
 }
 
@@ -173,7 +187,7 @@ fn part(x: Part) -> GridPart
 pub extern "C" fn grid_check_plain(model: &[u8], plan: &[u8]) -> GridAnswer
     ensures { result ≡ verdict_exported (plain_verdict model.now plan.now) }
 {
-    check_answer(checks::check_plain(model, plan))
+    GridAnswer::from(checks::check_plain(model, plan))
 }
 
 // The strict check.
@@ -181,7 +195,7 @@ pub extern "C" fn grid_check_plain(model: &[u8], plan: &[u8]) -> GridAnswer
 pub extern "C" fn grid_check_strict(model: &[u8], plan: &[u8]) -> GridAnswer
     ensures { result ≡ verdict_exported (strict_verdict model.now plan.now) }
 {
-    check_answer(checks::check_strict(model, plan))
+    GridAnswer::from(checks::check_strict(model, plan))
 }
 
 // The run, with the plan written into the lent buffer.
@@ -190,7 +204,7 @@ pub extern "C" fn grid_run(model: &[u8], choice: &[u8], out: &mut [u8]) -> GridA
     ensures { (result ≡ run_exported (run_answer model.now choice.now (length out.old)))
         × (out.new ≡ run_buffer model.now choice.now out.old) }
 {
-    run_answer(run::run(model, choice, out))
+    GridAnswer::from(run::run(model, choice, out))
 }
 
 // The report of lateness, with a row for each activity written into the lent list.
@@ -199,7 +213,7 @@ pub extern "C" fn grid_lateness(model: &[u8], choice: &[u8], rows: &mut [i32]) -
     ensures { (result ≡ run_exported (report_answer model.now choice.now (length rows.old)))
         × (rows.new ≡ report_rows model.now choice.now rows.old) }
 {
-    run_answer(report::lateness(model, choice, rows))
+    GridAnswer::from(report::lateness(model, choice, rows))
 }
 
 // Which of two wrapped records stands.
@@ -208,17 +222,17 @@ pub extern "C" fn grid_stands(first: &[u8], second: &[u8]) -> GridPart
     ensures { result ≡ part_exported (pair_part first.now second.now) }
 {
     match exchange::which_stands(first, second) {
-        Ok(Side::First) => part(Part {
+        Ok(Side::First) => GridPart::from(Part {
             index: 0,
             offset: 0,
             length: first.len(),
         }),
-        Ok(Side::Second) => part(Part {
+        Ok(Side::Second) => GridPart::from(Part {
             index: 1,
             offset: 0,
             length: second.len(),
         }),
-        Err(x) => part_refusal(x),
+        Err(x) => GridPart::from(x),
     }
 }
 
@@ -228,8 +242,8 @@ pub extern "C" fn grid_choose(file: &[u8]) -> GridPart
     ensures { result ≡ part_exported (file_answer file.now) }
 {
     match exchange::choose(file) {
-        Ok(x) => part(x),
-        Err(x) => part_refusal(x),
+        Ok(x) => GridPart::from(x),
+        Err(x) => GridPart::from(x),
     }
 }
 
@@ -239,7 +253,8 @@ pub extern "C" fn grid_mark(model: &[u8], plan: &mut [u8], activity: u32, tick: 
     ensures { (result ≡ edit_exported (edit_answer model.now plan.old (marking activity tick)))
         × (plan.new ≡ edit_bytes model.now plan.old (marking activity tick)) }
 {
-    edit_answer(edits::mark(model, plan, activity, tick))
+    let said = edits::mark(model, plan, activity, tick);
+    GridAnswer::from(said.map_err(edits::reason_numbers))
 }
 
 // An activity cleared at a tick of the lent plan.
@@ -248,58 +263,55 @@ pub extern "C" fn grid_clear(model: &[u8], plan: &mut [u8], activity: u32, tick:
     ensures { (result ≡ edit_exported (edit_answer model.now plan.old (clearing activity tick)))
         × (plan.new ≡ edit_bytes model.now plan.old (clearing activity tick)) }
 {
-    edit_answer(edits::clear(model, plan, activity, tick))
+    let said = edits::clear(model, plan, activity, tick);
+    GridAnswer::from(said.map_err(edits::reason_numbers))
 }
 
 // ---- the editing state
 
 // A state in which a mark or a clear is asked.
-fn asking(mark: bool, activity: u32, tick: u32) -> Editing
-    ensures { result ≡ asking (edit_of mark activity tick) }
+fn asking(mark: bool, given: GridEditing) -> Editing
+    ensures { result ≡ asking (edit_of mark given.activity given.tick) }
 {
     Editing {
         asked: Some(Edit {
             on: mark,
-            activity,
-            tick,
+            activity: given.activity,
+            tick: given.tick,
         }),
     }
 }
 
 // The state as the edits know it.
-fn editing(given: GridEditing) -> Editing
-    ensures { result ≡ editing_of given }
-{
-    let kind = given.asked;
-    if kind == 1 {
-        return asking(true, given.activity, given.tick);
+impl From<GridEditing> for Editing {
+    ghost from_gives = { λ given state. state ≡ editing_of given };
+
+    fn from(given: GridEditing) -> Editing {
+        match given.asked {
+            1 => asking(true, given),
+            2 => asking(false, given),
+            _ => Editing { asked: None },
+        }
     }
-    if kind == 2 {
-        return asking(false, given.activity, given.tick);
-    }
-    Editing { asked: None }
 }
 
 // The given state with something else asked.
 fn with_asked(given: GridEditing, asked: Option<Edit>) -> GridEditing
     ensures { result ≡ with_asked given asked }
 {
-    let counts = given.counts;
-    let Some(e) = asked else {
-        return GridEditing {
+    match asked {
+        None => GridEditing {
             asked: 0,
             activity: 0,
             tick: 0,
-            total: given.total,
-            counts,
-        };
-    };
-    GridEditing {
-        asked: if e.on { 1 } else { 2 },
-        activity: e.activity,
-        tick: e.tick,
-        total: given.total,
-        counts,
+            ..given
+        },
+        Some(e) => GridEditing {
+            asked: if e.on { 1 } else { 2 },
+            activity: e.activity,
+            tick: e.tick,
+            ..given
+        },
     }
 }
 
@@ -310,24 +322,13 @@ fn state_after(given: GridEditing, done: bool) -> GridEditing
     if done { with_asked(given, None) } else { given }
 }
 
-// What a mark or a clear answered, with the state afterwards.
-fn edit_step(given: GridEditing, said: Edited) -> GridStep
-    ensures { (result.answer ≡ edit_exported (edited_numbers said))
-        × (result.state ≡ edited_state (edited_numbers said) given) }
+// What a mark, a clear or a keep answered, with the state afterwards.
+fn step(given: GridEditing, said: Result<(), Numbered>) -> GridStep
+    ensures { (result.answer ≡ edit_exported (done_numbers said))
+        × (result.state ≡ edited_state (done_numbers said) given) }
 {
     GridStep {
-        answer: edit_answer(said),
-        state: state_after(given, said.is_ok()),
-    }
-}
-
-// The same of a keep.
-fn keep_step(given: GridEditing, said: Kept) -> GridStep
-    ensures { (result.answer ≡ edit_exported (kept_numbers said))
-        × (result.state ≡ edited_state (kept_numbers said) given) }
-{
-    GridStep {
-        answer: keep_answer(said),
+        answer: GridAnswer::from(said),
         state: state_after(given, said.is_ok()),
     }
 }
@@ -351,10 +352,10 @@ pub extern "C" fn grid_edit_ask(
         activity,
         tick,
     };
-    let step = edits::ask(editing(state), model, plan, e);
+    let told = edits::ask(Editing::from(state), model, plan, e);
     GridStep {
-        answer: ask_answer(step.answer),
-        state: with_asked(state, step.state.asked),
+        answer: GridAnswer::from(told.answer),
+        state: with_asked(state, told.state.asked),
     }
 }
 
@@ -365,8 +366,8 @@ pub extern "C" fn grid_edit_keep(state: GridEditing, model: &[u8], plan: &mut [u
         × (result.state ≡ edited_state (keep_answer model.now plan.old (editing_of state).asked) state)
         × (plan.new ≡ keep_bytes model.now plan.old (editing_of state).asked) }
 {
-    let step = edits::keep(editing(state), model, plan);
-    keep_step(state, step.answer)
+    let kept = edits::keep(Editing::from(state), model, plan);
+    step(state, kept.answer.map_err(edits::unkept_numbers))
 }
 
 // An activity marked at a tick of the lent plan, with the state.
@@ -382,8 +383,8 @@ pub extern "C" fn grid_edit_mark(
         × (result.state ≡ edited_state (edit_answer model.now plan.old (marking activity tick)) state)
         × (plan.new ≡ edit_bytes model.now plan.old (marking activity tick)) }
 {
-    let step = edits::mark_with(editing(state), model, plan, activity, tick);
-    edit_step(state, step.answer)
+    let made = edits::mark_with(Editing::from(state), model, plan, activity, tick);
+    step(state, made.answer.map_err(edits::reason_numbers))
 }
 
 // An activity cleared at a tick of the lent plan, with the state.
@@ -399,6 +400,6 @@ pub extern "C" fn grid_edit_clear(
         × (result.state ≡ edited_state (edit_answer model.now plan.old (clearing activity tick)) state)
         × (plan.new ≡ edit_bytes model.now plan.old (clearing activity tick)) }
 {
-    let step = edits::clear_with(editing(state), model, plan, activity, tick);
-    edit_step(state, step.answer)
+    let made = edits::clear_with(Editing::from(state), model, plan, activity, tick);
+    step(state, made.answer.map_err(edits::reason_numbers))
 }

@@ -18,7 +18,7 @@ pub struct Ran {
     pub strict: Verdict,
 }
 
-// That, or why the run refuses.
+// What a checked run answers: the run with both verdicts, or why the run refuses.
 pub type Checked = Result<Ran, Refusal>;
 
 // "The plan that a successful run wrote is the lent buffer's first bytes, as many as the length it answers": both verdicts

@@ -1,6 +1,6 @@
 // Rules 21 to 23 and 25 to 27, activity by activity.
-ghost use Rattle.std.specs.Prelude.{◌≡◌, not, ◌+◌, ◌≤◌, ◌<◌, leb};
-ghost use Rattle.schedule.specs.Bounded.{bit, ◌⇒◌};
+ghost use Rattle.std.specs.Prelude.{◌≡◌, not, ◌+◌, ◌<◌, leb};
+ghost use Rattle.schedule.specs.Bounded.{◌⇒◌};
 ghost use Rattle.schedule.specs.Rule.{break};
 ghost use Rattle.schedule.specs.Records.{within};
 ghost use Rattle.schedule.specs.Model.{model};
@@ -12,7 +12,7 @@ ghost use Rattle.checks.specs.Tables.{broken_mask};
 ghost use Rattle.checks.specs.Rules.{activity_rule, early_from};
 
 use crate::page::Page;
-use crate::{first_place, flag, refused};
+use crate::{first_place, flag, refused, word};
 use records::model::{Activity, owner};
 use schedule::{ActivityRule, Refusal, RuleRefusal};
 use tables::ByActivity;
@@ -24,10 +24,7 @@ fn count_holds(s: &[u8], a: Activity, count: u32) -> bool
         ≡ within ((model s.now).least_duration a.0) ((model s.now).most_duration a.0) count }
 {
     let row = records::model::activity_row(s, a);
-    if count < (row.least_duration as u32) {
-        return false;
-    }
-    count <= (row.most_duration as u32)
+    row.least_duration as u32 <= count && count <= row.most_duration as u32
 }
 
 // 23 at activity a.
@@ -44,29 +41,7 @@ fn deadline_holds(s: &[u8], r: &[u8], a: Activity) -> bool
 fn too_early(precedes: bool, start: u32, end: u32, delay: u32) -> bool
     ensures { result ≡ not (precedes ⇒ leb (end + delay) start) }
 {
-    if precedes {
-        !passed(end, delay, start)
-    } else {
-        false
-    }
-}
-
-// 25 and 26: the predecessors that a start comes too early after.
-fn early_mask(preceding: u32, start: u32, n: u8, ends: &ByActivity, delays: &ByActivity) -> u32
-    requires { n ≤ 32 }
-    ensures { result ≡ early_from preceding start n ends.now delays.now }
-{
-    let mut mask: u32 = 0;
-    for number in 0..n {
-        let yes = too_early(
-            bits::has(preceding, number as u32),
-            start,
-            ends[number as usize],
-            delays[number as usize],
-        );
-        mask = bits::mark(mask, number as u32, yes);
-    }
-    mask
+    precedes && !passed(end, delay, start)
 }
 
 impl<'a> Page<'a> {
@@ -75,24 +50,29 @@ impl<'a> Page<'a> {
         requires { a.0 < (model self.now.s.now).activities }
         ensures { result ≡ window (model self.now.s.now) (plan self.now.r.now) a.0 }
     {
-        let number = a.0;
+        let number = a.0 as u32;
         let row = records::plan::activity_row(self.r, a);
-        let start = row.start;
-        let end = row.end;
         let sizes = records::model::counts(self.s);
-        if !spans(start as u32, end as u32, sizes.horizon as u32) {
-            return false;
-        }
-        if !bits::has(records::plan::word(self.r, start), number as u32) {
-            return false;
-        }
-        if !bits::has(records::plan::word(self.r, end - 1), number as u32) {
-            return false;
-        }
-        !bits::has(self.outside, number as u32)
+        spans(row.start as u32, row.end as u32, sizes.horizon as u32)
+            && bits::has(records::plan::word(self.r, row.start), number)
+            && bits::has(records::plan::word(self.r, row.end - 1), number)
+            && !bits::has(self.outside, number)
     }
 
-    // The places at which a rule is broken at activity a: the predecessors B for 25 and 26, bit 0 for the others.
+    // 25 and 26: the predecessors that a start comes too early after.
+    fn early_mask(&self, preceding: u32, start: u32, delays: &ByActivity) -> u32
+        ensures { result
+            ≡ early_from preceding start (model self.now.s.now).activities self.now.tables.now.ends delays.now }
+    {
+        let sizes = records::model::counts(self.s);
+        let ends = &self.tables.ends;
+        word(sizes.activities as usize, |b| {
+            too_early(bits::has(preceding, b as u32), start, ends[b], delays[b])
+        })
+    }
+
+    // The places at which a rule is broken at activity a: the predecessors B for 25 and 26, bit 0 for the others. The rule stays a
+    // value: its refusal carries it (`RuleRefusal::Activity`).
     fn breaking(&self, rule: ActivityRule, a: Activity) -> u32
         requires { a.0 < (model self.now.s.now).activities }
         ensures { result
@@ -101,8 +81,6 @@ impl<'a> Page<'a> {
         let s = self.s;
         let r = self.r;
         let tables = self.tables;
-        let sizes = records::model::counts(s);
-        let n = sizes.activities;
         let span = records::plan::activity_row(r, a);
         let start = span.start as u32;
         let number = a.0 as usize;
@@ -110,18 +88,14 @@ impl<'a> Page<'a> {
             ActivityRule::Window => flag(self.window_holds(a)),
             ActivityRule::Count => flag(count_holds(s, a, tables.counts[number])),
             ActivityRule::Deadline => flag(deadline_holds(s, r, a)),
-            ActivityRule::Temporal => early_mask(
+            ActivityRule::Temporal => self.early_mask(
                 records::model::activity_row(s, a).temporal_mask,
                 start,
-                n,
-                &tables.ends,
                 &tables.delays,
             ),
-            ActivityRule::Data => early_mask(
+            ActivityRule::Data => self.early_mask(
                 records::model::activity_row(s, a).data_mask,
                 start,
-                n,
-                &tables.ends,
                 &[0u32; 32],
             ),
             ActivityRule::Eligible => {

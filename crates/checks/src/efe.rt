@@ -11,7 +11,8 @@ use records::model::{Activity, owner};
 use tables::ByActivity;
 use ticks::let_go;
 
-// A model, as far as the passes over predecessors read it: how many activities it has, and their delays.
+// A model, as far as the passes over predecessors read it: how many activities it has, and their delays. The delays are a table
+// and no rows: they are a column of the model as it was read (`tables::columns::table` is public).
 #[derive(Clone, Copy)]
 pub(crate) struct Predecessors<'a> {
     pub(crate) s: &'a [u8],
@@ -24,7 +25,8 @@ pub(crate) struct Predecessors<'a> {
 }
 
 impl<'a> Predecessors<'a> {
-    // The latest that a's predecessors let go, where a table says when each activity is done.
+    // The latest that a's predecessors let go, where a table says when each activity is done. The only loop of its shape in this
+    // crate: the one of the tables (`greatest`) goes over a closure and so is private to them.
     fn after(&self, a: Activity, done: &ByActivity) -> u32
         requires { (b : ℕ) → b < self.now.n → get_or done.now b 0 < 2147483648 }
         ensures { result ≡ after (model self.now.s.now) self.now.n (λ b. get_or done.now b 0) a.0 }

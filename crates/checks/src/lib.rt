@@ -7,8 +7,9 @@ mod page;
 mod tick;
 mod windows;
 
-ghost use Rattle.std.specs.Prelude.{◌≡◌, cond};
+ghost use Rattle.std.specs.Prelude.{◌≡◌, ◌≤◌, ◌<◌, ℕ, Bool, cond};
 ghost use Rattle.std.proofs.Math.Option.{some};
+ghost use Rattle.schedule.specs.Bounded.{word_of};
 ghost use Rattle.schedule.specs.Rule.{break, first_break};
 ghost use Rattle.schedule.specs.Model.{model, Formed};
 ghost use Rattle.schedule.specs.Plan.{plan};
@@ -48,8 +49,22 @@ fn first_place(mask: u32) -> Option<u32>
     }
 }
 
+// The word of the first n numbers that pass a test. The crate of the tables has such a function too: its closure needs a
+// `requires`, and no public call has one.
+fn word<F: Fn(usize) -> bool>(n: usize, test: F) -> u32
+    requires few { n ≤ 32 }
+    requires callable { (a : ℕ) → a < n → F.pre test a }
+    ensures { (p : ℕ → Bool) → ((a : ℕ) (y : Bool) → a < n → F.post test a y → y ≡ p a) → result ≡ word_of n p }
+{
+    let mut word: u32 = 0;
+    for a in 0..n {
+        word = bits::mark(word, a as u32, test(a));
+    }
+    word
+}
+
 impl<'a> Page<'a> {
-    // A rule tried at each of its places.
+    // A rule tried at each of its places. The rule stays a value: its refusal carries it (`RuleRefusal`).
     fn over(&self, rule: RuleRefusal) -> Result<(), Refusal>
         ensures { pass_numbers result ≡ break (rule_of rule (model self.now.s.now) (plan self.now.r.now)) }
     {
@@ -60,7 +75,7 @@ impl<'a> Page<'a> {
     }
 }
 
-// The rules in the order in which a check tries them.
+// The rules in the order in which a check tries them. A table of rules and of no closures: a refusal carries its rule.
 static ORDER: [RuleRefusal; 10] = [
     RuleRefusal::Activity(ActivityRule::Window),
     RuleRefusal::Activity(ActivityRule::Count),
@@ -74,14 +89,16 @@ static ORDER: [RuleRefusal; 10] = [
     RuleRefusal::Tick(TickRule::Tie),
 ];
 
-// Those that the plain or the strict check tries: "The plain check ends here; the strict check goes on with 30 and 31."
+// The rules that the plain or the strict check tries, by the flag that the definitions take: "The plain check ends here; the strict
+// check goes on with 30 and 31."
 fn order(strict: bool) -> &'static [RuleRefusal]
     ensures { result.now ≡ order_of strict }
 {
     if strict { &ORDER } else { &ORDER[..8] }
 }
 
-// The rules of a check on well-formed records in their order, "each tried over everything before the next".
+// The rules of a check on well-formed records in their order, "each tried over everything before the next". That the model is
+// formed stands in two contracts of the crate; a type for the run and the report too would have to be public.
 fn grid_rules(s: &[u8], r: &[u8], strict: bool) -> Result<(), Refusal>
     requires { Formed (model s.now) }
     ensures { pass_numbers result ≡ first_break (grid_rules strict (model s.now) (plan r.now)) }

@@ -14,7 +14,8 @@ use tables::columns::Column;
 use tables::loads::Widths;
 use tables::ranking::Order;
 
-// The tables together.
+// The tables together. Tables and no rows: most are filled from one column of the records (`tables::columns::table` is public).
+// Nothing is allocated, so each has room for 32.
 #[derive(Clone, Copy)]
 pub(crate) struct Tables {
     // "count(a) is the number of words with bit a"
@@ -31,7 +32,7 @@ pub(crate) struct Tables {
     pub(crate) befores: ByActivity,
 }
 
-// All of them.
+// The tables of a model and a plan.
 pub(crate) fn tabulate(s: &[u8], r: &[u8]) -> Tables
     requires { Formed (model s.now) }
     ensures { Tabulated (model s.now) (plan r.now) result }

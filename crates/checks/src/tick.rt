@@ -9,7 +9,7 @@ ghost use Rattle.schedule.specs.Plan.{plan};
 ghost use Rattle.records.specs.Reads.{pass_numbers};
 
 use crate::page::Page;
-use crate::windows::{Windows, without};
+use crate::windows::Windows;
 use crate::{first_place, flag, refused};
 use schedule::{Refusal, RuleRefusal, TickRule};
 use tables::ByActivity;
@@ -17,7 +17,7 @@ use tables::loads::{Widths, load};
 use tables::ranking::{Order, masks};
 
 // For each activity those that must not wait while it is active: by 29 those of a higher priority, by 31 those of its own
-// priority with a lower number. 28 and 30 compare nobody.
+// priority with a lower number. 28 and 30 compare nobody. The rule stays a value: its refusal carries it.
 fn outranked_by(rule: TickRule, s: &[u8]) -> ByActivity
     ensures { Ranked rule (model s.now) result }
 {
@@ -99,7 +99,7 @@ impl<'a> Trial<'a> {
             ≡ contested_of self.now.widths self.now.outranked self.now.befores.now self.now.cores tick }
     {
         let word = tick.word;
-        let waiting = without(tick.opened, word);
+        let waiting = tick.opened & !word;
         if waiting == 0 {
             return 0;
         }
@@ -115,7 +115,7 @@ impl<'a> Trial<'a> {
         ensures { result ≡ idle_of self.now.widths self.now.befores.now self.now.cores tick }
     {
         let word = tick.word;
-        let waiting = without(tick.opened, word);
+        let waiting = tick.opened & !word;
         if waiting == 0 {
             return 0;
         }
@@ -125,7 +125,8 @@ impl<'a> Trial<'a> {
         0
     }
 
-    // The activities that break the rule at a tick; for 28, which names none, bit 0.
+    // The activities that break the rule at a tick; for 28, which names none, bit 0. The rule stays a value, told anew at every
+    // tick: its refusal carries it (`RuleRefusal::Tick`).
     fn breaking(&self, tick: Snapshot) -> u32
         ensures { result
             ≡ breaking_of self.now.rule self.now.widths self.now.outranked self.now.befores.now self.now.cores tick }
@@ -137,8 +138,8 @@ impl<'a> Trial<'a> {
         }
     }
 
-    // The lowest of them. `passed` is a tick that breaks nothing; a rule sees no more of a tick than the snapshot, so one with
-    // the same snapshot is not tried again.
+    // The lowest activity that breaks the rule at a tick. `passed` is a tick that breaks nothing; a rule sees no more of a tick than
+    // the snapshot, so one with the same snapshot is not tried again.
     fn first_breaking(&self, passed: Snapshot, tick: Snapshot) -> Option<u32>
         requires { breaking_of self.now.rule self.now.widths self.now.outranked self.now.befores.now self.now.cores passed ≡ 0 }
         ensures { FirstPlace

@@ -7,9 +7,10 @@ ghost use Rattle.schedule.specs.Model.{model};
 ghost use Rattle.ticks.specs.Kept.{Quiet, Stands};
 ghost use Rattle.checks.specs.Tables.{Tabulated};
 ghost use Rattle.checks.specs.Rules.{none_outside};
-ghost use Rattle.checks.specs.Windows.{open_of, without};
+ghost use Rattle.checks.specs.Windows.{open_of};
 
 use crate::page::Tables;
+use crate::word;
 use tables::ByActivity;
 use tables::columns::Column;
 use ticks::{Kept, sooner};
@@ -21,7 +22,8 @@ fn holds(from: u32, end: u32, t: u32) -> bool
     from <= t && t < end
 }
 
-// The windows of the first n activities, by tables of the ticks from which and before which they are open.
+// The windows of the first n activities, by tables of the ticks from which and before which they are open. Two tables and no
+// rows: the ends are a column of the plan as it was read (`tables::columns::table` is public), and serve other rules too.
 #[derive(Clone, Copy)]
 pub(crate) struct Windows<'a> {
     pub(crate) n: usize,
@@ -31,24 +33,19 @@ pub(crate) struct Windows<'a> {
 }
 
 impl<'a> Windows<'a> {
-    // Those that are open at tick t.
+    // The word of the activities whose window is open at tick t.
     fn opened(&self, t: u32) -> u32
         ensures { result ≡ open_of self.now.n self.now.froms.now self.now.ends.now t }
     {
-        let mut mask: u32 = 0;
-        for a in 0..self.n {
-            let yes = holds(self.froms[a], self.ends[a], t);
-            mask = bits::mark(mask, a as u32, yes);
-        }
-        mask
+        word(self.n, |a| holds(self.froms[a], self.ends[a], t))
     }
 
-    // The next tick after t at which one opens or closes.
+    // The next tick after t at which a window opens or closes.
     fn next_change(&self, t: u32) -> u32
         ensures { Quiet self.now.n (λ a. get_or self.now.froms.now a 0) t result
             × Quiet self.now.n (λ a. get_or self.now.ends.now a 0) t result }
     {
-        let mut next: u32 = 0xffff_ffff;
+        let mut next: u32 = u32::MAX;
         for a in 0..self.n {
             next = sooner(next, self.froms[a], t);
             next = sooner(next, self.ends[a], t);
@@ -56,7 +53,9 @@ impl<'a> Windows<'a> {
         next
     }
 
-    // Those that are open at tick t, as a word: those that are known, where they still stand.
+    // The word of the windows that are open at tick t: the one that is known, where it lasts, else a new one. The machine keeps its
+    // words so too; a function for both crates would take the making of a word as a closure and so need a `requires`, which no
+    // public call has.
     pub(crate) fn at(&self, known: Kept, t: u32) -> Kept
         requires { Stands (open_of self.now.n self.now.froms.now self.now.ends.now) known t }
         ensures { (result.word ≡ open_of self.now.n self.now.froms.now self.now.ends.now t)
@@ -82,20 +81,13 @@ impl<'a> Windows<'a> {
         let mut opened = ticks::unknown();
         for t in 0..horizon {
             opened = self.at(opened, t as u32);
-            strays |= without(records::grid::word(grid, t as usize), opened.word);
+            strays |= records::grid::word(grid, t as usize) & !opened.word;
         }
         strays
     }
 }
 
-// The activities of a word that are not in another.
-pub(crate) fn without(word: u32, other: u32) -> u32
-    ensures { result ≡ without word other }
-{
-    word & !other
-}
-
-// "none outside": the activities that break it.
+// The activities that break "none outside".
 pub(crate) fn strays(s: &[u8], r: &[u8], tables: &Tables) -> u32
     requires { Tabulated (model s.now) (plan r.now) tables.now }
     ensures { (a : ℕ) → a < (model s.now).activities

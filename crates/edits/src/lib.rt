@@ -30,7 +30,7 @@ fn edit_number(why: EditRefusal) -> u32
     }
 }
 
-// A refusal's number, A and B.
+// A refusal's number, A and B. Functions and no From: the types are other crates'.
 pub fn reason_numbers(why: Reason) -> Numbered
     ensures { numbers_of result ≡ reason_numbers why }
 {
@@ -44,7 +44,7 @@ pub fn reason_numbers(why: Reason) -> Numbered
     }
 }
 
-// The same of a keep that is refused.
+// The numbers of a keep's refusal: 61, or those of its edit.
 pub fn unkept_numbers(why: Unkept) -> Numbered
     ensures { numbers_of result ≡ unkept_numbers why }
 {
@@ -59,6 +59,8 @@ pub fn unkept_numbers(why: Unkept) -> Numbered
 }
 
 // ---- an edit
+
+// The model s, the plan r and the edit e go side by side: some calls lend the plan for writing, so no one struct holds the three.
 
 // "a bit already so": as the edit wants it.
 fn already(e: Edit, marked: bool) -> bool
@@ -104,7 +106,7 @@ fn apply(s: &[u8], r: &mut [u8], e: Edit) -> Edited
     Ok(())
 }
 
-// ---- the calls without a state
+// ---- the calls without a state, each of which is one call of one function
 
 // Marks an activity at a tick.
 pub fn mark(model: &[u8], plan: &mut [u8], activity: u32, tick: u32) -> Edited
@@ -153,7 +155,7 @@ fn verdict_in(s: &[u8], r: &[u8], e: Edit, scratch: &mut [u8]) -> Verdict
     checks::check_plain(s, scratch)
 }
 
-// The same, with a scratch on the stack.
+// The plain verdict on a plan with an edit made, with a scratch on the stack: the plan itself stays as it is.
 fn verdict_after(s: &[u8], r: &[u8], e: Edit) -> Verdict
     requires { edit_answer s.now r.now e ≡ accepted tt }
     ensures { verdict_numbers result ≡ plain_verdict s.now (edit_bytes s.now r.now e) }
@@ -204,10 +206,10 @@ fn unkept(s: &[u8], r: &[u8]) -> Kept
 fn kept(said: Edited) -> Kept
     ensures { kept_numbers result ≡ edited_numbers said }
 {
-    Ok(said?)
+    said.map_err(Unkept::from)
 }
 
-// ---- the calls with a state
+// ---- the calls with a state, of which the direct edits are one call of one function each
 
 // Asks for a mark or a clear: the plain verdict that the plan would have. Whatever was asked before is asked no more.
 pub fn ask(state: Editing, model: &[u8], plan: &[u8], e: Edit) -> Step<Told>

@@ -19,7 +19,8 @@ fn word_with(e: Edit, word: u32) -> u32
     }
 }
 
-// The row so far, with one tick more that is marked or not; an end of 0 says that none was.
+// The row so far, with one tick more that is marked or not. An end of 0 says that none was: the row itself is both 0 then, so an
+// Option would be taken apart into the same.
 fn seen(row: Span, t: u16, marked: bool) -> Span
     requires { t < 65535 }
     ensures { (result.start ≡ cond marked (cond (eqb row.end 0) t row.start) row.start)
@@ -45,7 +46,7 @@ fn row_in(grid: &[u8], h: u16, a: u32) -> Span
     row
 }
 
-// The same of a plan's own words.
+// The first marked tick of an activity and its last plus 1, or both 0, by a plan's own words.
 fn row_of(r: &[u8], a: u32) -> Span
     ensures { (result.start ≡ first_marked (plan r.now).horizon (λ t. active (plan r.now) t a))
         × (result.end ≡ past_marked (plan r.now).horizon (λ t. active (plan r.now) t a)) }

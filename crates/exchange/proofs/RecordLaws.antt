@@ -11,9 +11,11 @@ use lib.Dec.{eqb, leb, ltb}
 use lib.ListN.{length, take, drop, length-drop}
 use lib.Seq.{take_all}
 use Rattle.std.specs.Cmp.Lexicographic.{pointwise}
-use Rattle.std.specs.Prelude.{Result, Ok, Err, is_ok}
-use borrow.Author.Tests.{eq-eqb, ne_eqb, le-ltb, le-leb, lt-leb}
-use Rattle.schedule.specs.Bounded.{first}
+use Rattle.std.specs.Prelude.{Result, Ok, Err, is_ok, not, Some}
+use Rattle.std.proofs.Common.{Less, Equal, Greater}
+use Rattle.std.specs.Ordering.{is_lt, is_some_and, nat_cmp, partial_ordering_then}
+use borrow.Author.Tests.{ne_eqb, le-leb, lt-leb}
+use Rattle.schedule.specs.Bounded.{first, ◌⇒◌}
 use Rattle.schedule.specs.Fields.{field}
 use Rattle.schedule.specs.Rule.{Refusal, break, first_break}
 use Rattle.schedule.specs.Model.{model_form}
@@ -87,22 +89,30 @@ right_by w =
 
 -- ---- beside the one standing so far
 
--- by the issue, then by the flag
-pub equal_issues : (x y : List ℕ) (i j : ℕ) → i ≡ issue x → j ≡ issue y → i ≡ j
-    → outranks x y ≡ ltb (withdrawn y) (withdrawn x)
-unfolding outranks
-equal_issues x y i j ei ej e =
-    let same : issue y ≡ issue x = sym ej ∙ sym e ∙ ei in
-    simp (le-ltb (issue y) (issue x) (omega (arith, same)), eq-eqb (issue y) (issue x) same)
+-- 56's test, by whether one of the three fields differs
+pub fields_differ : (series issue flag bytes : Bool)
+    → ((series && (issue && flag)) ⇒ bytes) ≡ cond (not ((series && issue) && flag)) true bytes
+fields_differ false issue flag bytes = refl
+fields_differ true false flag bytes = refl
+fields_differ true true false bytes = refl
+fields_differ true true true bytes = refl
 
-pub other_issues : (x y : List ℕ) (i j : ℕ) → i ≡ issue x → j ≡ issue y → ¬ (i ≡ j) → outranks x y ≡ ltb (issue y) (issue x)
+-- by the issue, then by the flag, as pairs are ordered
+pub outranks_by : (x y : List ℕ) (i f j g : ℕ) → i ≡ issue y → f ≡ withdrawn y → j ≡ issue x → g ≡ withdrawn x
+    → is_some_and is_lt (partial_ordering_then (Some (nat_cmp i j)) (Some (nat_cmp f g))) ≡ outranks x y
 unfolding outranks
-other_issues x y i j ei ej n =
-    by (ltb (issue y) (issue x)) (eqb (issue y) (issue x)) (ne_eqb (issue y) (issue x) (λ e. n (ei ∙ sym e ∙ sym ej)))
+outranks_by x y i f j g ei ef ej eg =
+    rw (ei, ef, ej, eg)
+    (by (ltb (issue y) (issue x)) (eqb (issue y) (issue x)) (ltb (withdrawn y) (withdrawn x)) (eqb (withdrawn y) (withdrawn x)))
   where
-    by : (a b : Bool) → b ≡ false → (a || (b && ltb (withdrawn y) (withdrawn x))) ≡ a
-    by true b e = refl
-    by false b e = simp e
+    by : (a b d e : Bool)
+        → is_some_and is_lt (partial_ordering_then (Some (cond a Less (cond b Equal Greater))) (Some (cond d Less (cond e Equal Greater))))
+        ≡ (a || (b && d))
+    by true b d e = refl
+    by false false d e = refl
+    by false true true e = refl
+    by false true false true = refl
+    by false true false false = refl
 
 -- what a record is found to be, by its tests
 pub compared_by : (x w : List ℕ)

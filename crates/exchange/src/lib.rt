@@ -5,7 +5,7 @@
 ghost use Rattle.std.specs.Prelude.{◌≡◌, cond, ◌+◌, ◌≤◌, length, take, drop};
 ghost use Rattle.schedule.specs.Rule.{first_break};
 ghost use Rattle.schedule.specs.Answers.{answer};
-ghost use Rattle.schedule.specs.Exchange.{series, issue, withdrawn, wrapped, unbroken, wrapper_rule, series_rule, same, copy_rule};
+ghost use Rattle.schedule.specs.Exchange.{series, issue, withdrawn, wrapped, unbroken, wrapper_rule, series_rule, copy_rule};
 ghost use Rattle.schedule.specs.Exchange.{record_rules, outranks, pair_answer, pair_bytes, HandsBack, record_end};
 ghost use Rattle.schedule.specs.Exchange.{file_answer, file_bytes, handed_from};
 ghost use Rattle.schedule.specs.Lent.{LiesAt};
@@ -21,25 +21,28 @@ use schedule::{Chosen, Part, Side, Standing, WrapRefusal, WrapRefused};
 // How many bytes stand before the model.
 const WRAPPER: usize = 12;
 
+// The series, four bytes behind the length and the version.
 fn series(w: &[u8]) -> u32
     ensures { result ≡ series w.now }
 {
     fields::be32(w, 5)
 }
 
+// The issue, two bytes behind the series.
 fn issue(w: &[u8]) -> u16
     ensures { result ≡ issue w.now }
 {
     fields::be16(w, 9)
 }
 
+// The flag behind the issue: 1 of a withdrawn record, 0 of a live one.
 fn withdrawn(w: &[u8]) -> u8
     ensures { result ≡ withdrawn w.now }
 {
     fields::byte(w, 11)
 }
 
-// The model in it is not refused.
+// The model in a wrapped record is not refused.
 fn model_holds(w: &[u8]) -> bool
     requires { 12 ≤ length w.now }
     ensures { result ≡ unbroken (first_break (model_form (wrapped w.now))) }
@@ -54,7 +57,7 @@ fn wrapper_holds(w: &[u8]) -> bool
     if w.len() < WRAPPER {
         return false;
     }
-    if (fields::be32(w, 0) as usize) != w.len() {
+    if fields::be32(w, 0) as usize != w.len() {
         return false;
     }
     if fields::byte(w, 4) != 1 {
@@ -79,26 +82,14 @@ fn series_holds(x: &[u8], w: &[u8]) -> bool
 fn copy_holds(x: &[u8], w: &[u8]) -> bool
     ensures { result ≡ (copy_rule x.now w.now).test 0 0 }
 {
-    if series(w) != series(x) {
-        return true;
-    }
-    if issue(w) != issue(x) {
-        return true;
-    }
-    if withdrawn(w) != withdrawn(x) {
-        return true;
-    }
-    w == x
+    (series(w), issue(w), withdrawn(w)) != (series(x), issue(x), withdrawn(x)) || w == x
 }
 
 // "the higher issue stands; at equal issue the withdrawn one stands over the live one"
 fn outranks(x: &[u8], y: &[u8]) -> bool
     ensures { result ≡ outranks x.now y.now }
 {
-    if issue(x) != issue(y) {
-        return issue(y) < issue(x);
-    }
-    withdrawn(y) < withdrawn(x)
+    (issue(y), withdrawn(y)) < (issue(x), withdrawn(x))
 }
 
 // Record w beside x, the one standing so far: 54, "then 55 .. then 56", then whether it outranks that one.
@@ -186,17 +177,15 @@ fn record_at(file: &[u8], index: usize, offset: usize) -> Part
     }
 }
 
-// Its bytes.
+// The bytes of a part of a file.
 fn bytes_of(file: &[u8], x: Part) -> &[u8]
     requires { x.offset + x.length ≤ length file.now }
     ensures { (result.now ≡ take x.length (drop x.offset file.now)) × LiesAt file.entry x.offset result }
 {
-    let from = x.offset;
-    let to = from + x.length;
-    &file[from..to]
+    &file[x.offset..x.offset + x.length]
 }
 
-// The new one where it is above, else the old one.
+// The new record where it is above the old one, else the old one.
 fn upper(above: bool, old: Part, new: Part) -> Part
     ensures { result ≡ cond above new old }
 {
@@ -215,6 +204,7 @@ pub fn choose(file: &[u8]) -> Chosen
             index: 0,
         });
     }
+    // The place moves on by a record's length, so it is no range.
     let mut at = standing.length;
     let mut index = 1;
     while at < file.len() {

@@ -37,18 +37,21 @@ pub fn joined(a: u8, b: u8, c: u8, d: u8) -> u32
     u32::from_be_bytes([a, b, c, d])
 }
 
+// The byte at a position.
 pub fn byte(s: &[u8], at: usize) -> u8
     ensures { result ≡ field s.now at 1 }
 {
     s.get(at).copied().unwrap_or(0)
 }
 
+// The two bytes at a position as one number.
 pub fn be16(s: &[u8], at: usize) -> u16
     ensures { result ≡ field s.now at 2 }
 {
     u16::from_be_bytes(bytes_at(s, at))
 }
 
+// The four bytes at a position as one number.
 pub fn be32(s: &[u8], at: usize) -> u32
     ensures { result ≡ field s.now at 4 }
 {
@@ -66,18 +69,21 @@ fn store(out: &mut [u8], at: usize, bytes: &[u8])
     }
 }
 
+// Writes one byte at a position.
 pub fn put8(out: &mut [u8], at: usize, v: u8)
     ensures { out.new ≡ put at (bytes 1 v) out.old }
 {
     store(out, at, &[v]);
 }
 
+// Writes a number as two bytes at a position.
 pub fn put16(out: &mut [u8], at: usize, v: u16)
     ensures { out.new ≡ put at (bytes 2 v) out.old }
 {
     store(out, at, &u16::to_be_bytes(v));
 }
 
+// Writes a number as four bytes at a position.
 pub fn put32(out: &mut [u8], at: usize, v: u32)
     ensures { out.new ≡ put at (bytes 4 v) out.old }
 {

@@ -2,33 +2,16 @@
 // second `strict`; then `accepted` and the three figures, or `refused` and number, A, B".
 #![tactic(auto)]
 
-ghost use Rattle.std.specs.Prelude.{◌≡◌, ◌≤◌, length};
+ghost use Rattle.std.specs.Prelude.{◌≡◌};
 ghost use Rattle.std.proofs.Common.{rules};
 ghost use Rattle.schedule.specs.Streams.{input_limit};
 ghost use Rattle.schedule.specs.Lines.{gridcheck};
 
-use programs::{Front, Program};
+use programs::{Front, LIMIT, Program};
 use std::io;
-
-// "at most 17,189 bytes of standard input"
-const LIMIT: usize = 17189;
 
 // Room for both lines.
 const ROOM: usize = 128;
-
-// The two lines for the bytes that are taken as all there is.
-fn verdicts(taken: &[u8]) -> Front<ROOM>
-    requires { length taken.now ≤ input_limit }
-    ensures { result ≡ gridcheck taken.now }
-{
-    let model = streams::first_record(taken);
-    let plan = streams::second_record(taken);
-    let plain = checks::check_plain(model, plan);
-    let strict = checks::check_strict(model, plan);
-    let mut bytes = [0u8; ROOM];
-    let length = text::check_lines(&mut bytes, plain, strict);
-    Front::new(bytes, length)
-}
 
 struct Gridcheck;
 
@@ -40,12 +23,21 @@ impl Program<LIMIT, ROOM> for Gridcheck {
         ensures limit { LIMIT ≡ input_limit }
         ensures text { result ≡ gridcheck input.now }
     {
-        verdicts(input.as_bytes())
+        let taken = input.as_bytes();
+        let model = streams::first_record(taken);
+        let plan = streams::second_record(taken);
+        let plain = checks::check_plain(model, plan);
+        let strict = checks::check_strict(model, plan);
+        let mut bytes = [0u8; ROOM];
+        let length = text::check_lines(&mut bytes, plain, strict);
+        Front::new(bytes, length)
     }
 
     ghost room = { Prim.search rules };
 }
 
+// Each program has a main of its own. A shared one would be a public function that promises nothing, so no edit of it could be
+// refused, and each public function has such an edit.
 // Where a read fails nothing is printed on standard output. What failed, and why, goes to standard error, and the status is 0.
 fn main(rt: HostRuntime) {
     let done = programs::run::<Gridcheck, _, _, LIMIT, ROOM>(&mut rt.stdin(), &mut io::writer(&rt));

@@ -3,36 +3,19 @@
 // A, B".
 #![tactic(auto)]
 
-ghost use Rattle.std.specs.Prelude.{◌≡◌, ◌≤◌, length};
+ghost use Rattle.std.specs.Prelude.{◌≡◌};
 ghost use Rattle.std.proofs.Common.{rules};
 ghost use Rattle.schedule.specs.Streams.{input_limit};
 ghost use Rattle.schedule.specs.Lines.{gridrun};
 
-use programs::{Front, Program};
+use programs::{Front, LIMIT, Program};
 use std::io;
-
-// "at most 17,189 bytes of standard input"
-const LIMIT: usize = 17189;
 
 // The longest plan.
 const PLAN: usize = 16553;
 
 // Room for the lines of 4096 ticks and the last line.
 const ROOM: usize = 60000;
-
-// The lines for the bytes that are taken as all there is.
-fn page(taken: &[u8]) -> Front<ROOM>
-    requires { length taken.now ≤ input_limit }
-    ensures { result ≡ gridrun taken.now }
-{
-    let model = streams::first_record(taken);
-    let choice = streams::second_record(taken);
-    let mut plan = [0u8; PLAN];
-    let verdict = run::run(model, choice, &mut plan);
-    let mut bytes = [0u8; ROOM];
-    let length = text::run_lines(&mut bytes, verdict, &plan);
-    Front::new(bytes, length)
-}
 
 struct Gridrun;
 
@@ -44,12 +27,21 @@ impl Program<LIMIT, ROOM> for Gridrun {
         ensures limit { LIMIT ≡ input_limit }
         ensures text { result ≡ gridrun input.now }
     {
-        page(input.as_bytes())
+        let taken = input.as_bytes();
+        let model = streams::first_record(taken);
+        let choice = streams::second_record(taken);
+        let mut plan = [0u8; PLAN];
+        let verdict = run::run(model, choice, &mut plan);
+        let mut bytes = [0u8; ROOM];
+        let length = text::run_lines(&mut bytes, verdict, &plan);
+        Front::new(bytes, length)
     }
 
     ghost room = { Prim.search rules };
 }
 
+// Each program has a main of its own. A shared one would be a public function that promises nothing, so no edit of it could be
+// refused, and each public function has such an edit.
 // Where a read fails nothing is printed on standard output. What failed, and why, goes to standard error, and the status is 0.
 fn main(rt: HostRuntime) {
     let done = programs::run::<Gridrun, _, _, LIMIT, ROOM>(&mut rt.stdin(), &mut io::writer(&rt));

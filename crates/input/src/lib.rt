@@ -11,6 +11,7 @@ use std::io;
 use std::io::{ErrorKind, Read};
 
 // A read that failed, and how many bytes had come before it.
+// A reader's contract names no error, so no clause says which one this is.
 #[derive(Clone, Copy, Debug)]
 pub struct FillError {
     pub read: usize,
@@ -48,17 +49,17 @@ fn read_at<R: Read>(
     ensures end { 0 < length chunk.old → done < length buf.old → AllWhereSame done result (R.remaining reader.new) }
 {
     let want = (buf.len() - done).min(chunk.len());
-    match read_some(reader, &mut chunk[..want]) {
-        Ok(more) => {
-            let now = done + more;
-            buf[done..now].copy_from_slice(&chunk[..more]);
-            Ok(now)
-        }
-        Err(error) => Err(FillError { read: done, error }),
-    }
+    let more = read_some(reader, &mut chunk[..want]).map_err(|error| FillError {
+        read: done,
+        error,
+    })?;
+    let now = done + more;
+    buf[done..now].copy_from_slice(&chunk[..more]);
+    Ok(now)
 }
 
-// Short reads go on until the buffer is full, the input ends or a read fails. The answer says how many bytes came.
+// Short reads go on until the buffer is full, the input ends or a read fails. The answer says how many bytes came. A read moves
+// on by as many bytes as came, so the loop is no range.
 pub fn fill<R: Read>(reader: &mut R, buf: &mut [u8]) -> Result<usize, FillError>
     ensures within { came result ≤ length buf.old }
     ensures kept { drop (came result) buf.new ≡ drop (came result) buf.old }

@@ -1,5 +1,5 @@
 // After the last tick: what is still owed, and the deadlines.
-ghost use Rattle.std.specs.Prelude.{◌≡◌, not, ◌≤◌, eqb, get_or};
+ghost use Rattle.std.specs.Prelude.{◌≡◌, not, eqb, get_or};
 ghost use Rattle.schedule.specs.Model.{model};
 ghost use Rattle.schedule.specs.Choice.{choice};
 ghost use Rattle.schedule.specs.Rule.{first_break};
@@ -13,23 +13,21 @@ ghost use Rattle.machine.specs.Played.{judged_numbers, judged_by};
 use crate::inputs::Tables;
 use crate::{Judged, State};
 use schedule::{Place, Refusal, RunRefusal};
+use tables::ByActivity;
 use tables::columns::Column;
 use ticks::on_time;
 
-impl State {
-    // "42 something owed after tick H − 1; A the lowest such activity": that activity of the first n.
-    fn first_owing(&self, n: usize) -> Option<usize>
-        requires { n ≤ 32 }
-        ensures { First n (λ a. not (eqb (get_or self.now.owed a 0) 0)) result }
-    {
-        self.owed[..n].iter().position(|owed| *owed != 0)
-    }
-}
-
 impl Tables {
+    // "42 something owed after tick H − 1; A the lowest such activity": that activity.
+    fn first_owing(&self, owed: &ByActivity) -> Option<usize>
+        ensures { First self.now.activities (λ a. not (eqb (get_or owed.now a 0) 0)) result }
+    {
+        owed[..self.activities].iter().position(|owes| *owes != 0)
+    }
+
     // "43 all ended, an end breaks rule 23; A the lowest": that activity.
     #[tactic(auto, unfolding(crate::specs::Ending::in_time_from))]
-    fn first_late(&self, periods: &[u32; 32], ends: &[u32; 32]) -> Option<usize>
+    fn first_late(&self, periods: &ByActivity, ends: &ByActivity) -> Option<usize>
         ensures { First self.now.activities
             (λ a. not (in_time_from self.now.releases periods.now ends.now a)) result }
     {
@@ -42,7 +40,7 @@ impl Tables {
     }
 }
 
-// "A refusal answers its number, A and B", B not named.
+// "A refusal answers its number, A and B", B not named. The records have such a function for another case of the enum.
 fn refusal(why: RunRefusal, a: u32) -> Refusal
     ensures { refusal_numbers result ≡ refusal_in (run_number why) a }
 {
@@ -56,7 +54,7 @@ pub(crate) fn judge(s: &[u8], q: &[u8], tables: &Tables, last: &State) -> Judged
     ensures { judged_numbers result
         ≡ judged_by (first_break (run_rules (model s.now) (choice q.now))) }
 {
-    if let Some(owing) = last.first_owing(tables.activities) {
+    if let Some(owing) = tables.first_owing(&last.owed) {
         return Judged::Refused(refusal(RunRefusal::Owed, owing as u32));
     }
     let periods = tables::columns::table(Column::ChosenPeriod, s, q);

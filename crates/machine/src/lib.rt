@@ -15,17 +15,20 @@ ghost use Rattle.machine.specs.Played.{Finished, played_ends, judged_numbers, pl
 
 use inputs::Tables;
 use schedule::Refusal;
+use tables::ByActivity;
 use tables::columns::Column;
 use tables::ranking::Order;
 
-// The machine's state: "for each activity the ticks still owed, and its end once nothing is owed".
+// The machine's state: "for each activity the ticks still owed, and its end once nothing is owed". Two tables and no rows: the
+// first is filled from a column of the records, and the second is handed out (`Played`).
 #[derive(Clone, Copy)]
 struct State {
-    owed: [u32; 32],
-    ends: [u32; 32],
+    owed: ByActivity,
+    ends: ByActivity,
 }
 
-// "The run succeeds if nothing is owed and each end keeps the deadline (rule 23)", else 42 or 43; or the machine was not played.
+// "The run succeeds if nothing is owed and each end keeps the deadline (rule 23)", else 42 or 43; or the machine was not played: three
+// cases, so neither an Option nor a Result.
 #[derive(Clone, Copy)]
 pub enum Judged {
     Succeeds,
@@ -36,12 +39,12 @@ pub enum Judged {
 // How the machine ends: the ends by activity, and how they are judged.
 #[derive(Clone, Copy)]
 pub struct Played {
-    pub ends: [u32; 32],
+    pub ends: ByActivity,
     pub judged: Judged,
 }
 
 // The activities in rank order: at each place the word of the one that so many rank before.
-fn order(s: &[u8]) -> [u32; 32]
+fn order(s: &[u8]) -> ByActivity
     requires { (model s.now).activities ≤ 32 }
     ensures { TableOf (model s.now) result (at_place (model s.now)) }
 {

@@ -6,6 +6,7 @@ ghost use Rattle.machine.specs.Stretches.{Unchanged, Busy, Lasts};
 
 use crate::State;
 use crate::inputs::Tables;
+use tables::ByActivity;
 use ticks::{Kept, sooner};
 
 impl State {
@@ -26,7 +27,7 @@ impl State {
 
 impl Tables {
     // The next tick after t at which a release, an end, or an end and its delay pass.
-    fn next_change(&self, ends: &[u32; 32], t: u16) -> u32
+    fn next_change(&self, ends: &ByActivity, t: u16) -> u32
         ensures { Unchanged self.now.activities self.now ends.now t result }
     {
         let now = t as u32;
@@ -40,7 +41,8 @@ impl Tables {
         next
     }
 
-    // The word of tick t: the one that is known, where it lasts.
+    // The word of tick t: the one that is known, where it lasts, else a new one. The checks keep their windows so too; a function
+    // for both crates would take the making of a word as a closure and so need a `requires`, which no public call has.
     pub(crate) fn at(&self, known: Kept, state: &State, t: u16) -> Kept
         requires { Lasts self.now state.now.owed state.now.ends known t }
         ensures { (result.word ≡ tick_word self.now state.now.owed state.now.ends t)

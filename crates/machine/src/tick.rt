@@ -1,11 +1,12 @@
 // A tick of the machine on whole words, from tables by activity.
-ghost use Rattle.std.specs.Prelude.{◌≡◌, cond, ◌+◌, ◌≤◌, ◌<◌, eqb};
+ghost use Rattle.std.specs.Prelude.{◌≡◌, cond, ◌+◌, ◌<◌, ℕ, Bool, eqb};
 ghost use Rattle.schedule.specs.Bounded.{word_of};
 ghost use Rattle.machine.specs.Masks.{covered, ended_from, ended_mask, ready_from, passing, taking, walked_from};
 ghost use Rattle.machine.specs.Masks.{tick_word, Stepped};
 
 use crate::State;
 use crate::inputs::Tables;
+use tables::ByActivity;
 use ticks::passed;
 
 // ---- what is ready
@@ -13,27 +14,11 @@ use ticks::passed;
 impl State {
     // Activity b owes nothing, and its end and delay have passed by tick t.
     #[tactic(auto, unfolding(crate::specs::Masks::ended_from))]
-    fn ended_by(&self, delays: &[u32; 32], t: u32, b: usize) -> bool
+    fn ended_by(&self, delays: &ByActivity, t: u32, b: usize) -> bool
         requires { b < 32 }
         ensures { result ≡ ended_from self.now.owed self.now.ends delays.now t b }
     {
-        if self.owed[b] == 0 {
-            passed(self.ends[b], delays[b], t)
-        } else {
-            false
-        }
-    }
-
-    // The activities that have ended so.
-    fn ended(&self, n: usize, delays: &[u32; 32], t: u32) -> u32
-        requires { n ≤ 32 }
-        ensures { result ≡ ended_mask n self.now.owed self.now.ends delays.now t }
-    {
-        let mut mask: u32 = 0;
-        for b in 0..n {
-            mask = bits::mark(mask, b as u32, self.ended_by(delays, t, b));
-        }
-        mask
+        self.owed[b] == 0 && passed(self.ends[b], delays[b], t)
     }
 }
 
@@ -46,32 +31,43 @@ fn covered(x: u32, y: u32) -> bool
 }
 
 impl Tables {
+    // The word of the activities that pass a test.
+    fn word<F: Fn(usize) -> bool>(&self, test: F) -> u32
+        requires { (a : ℕ) → a < self.now.activities → F.pre test a }
+        ensures { (p : ℕ → Bool) → ((a : ℕ) (y : Bool) → a < self.now.activities → F.post test a y → y ≡ p a)
+            → result ≡ word_of self.now.activities p }
+    {
+        let mut word: u32 = 0;
+        for a in 0..self.activities {
+            word = bits::mark(word, a as u32, test(a));
+        }
+        word
+    }
+
+    // The activities that owe nothing, and whose end and delay have passed by tick t.
+    fn ended(&self, state: &State, delays: &ByActivity, t: u32) -> u32
+        ensures { result ≡ ended_mask self.now.activities state.now.owed state.now.ends delays.now t }
+    {
+        self.word(|b| state.ended_by(delays, t, b))
+    }
+
     // "ready": activity a owes something, its release ≤ t, and its predecessors are among those that have ended, the temporal
     // ones with their delay.
-    fn ready_at(&self, owed: &[u32; 32], past: u32, over: u32, t: u32, a: usize) -> bool
+    fn ready_at(&self, owed: &ByActivity, past: u32, over: u32, t: u32, a: usize) -> bool
         requires { a < 32 }
         ensures { result ≡ ready_from self.now owed.now past over t a }
     {
-        if owed[a] == 0 {
-            return false;
-        }
-        if self.releases[a] <= t {
-            if covered(self.temporal[a], past) {
-                return covered(self.by_data[a], over);
-            }
-        }
-        false
+        0 < owed[a]
+            && self.releases[a] <= t
+            && covered(self.temporal[a], past)
+            && covered(self.by_data[a], over)
     }
 
     // The activities that are ready.
-    fn ready(&self, owed: &[u32; 32], past: u32, over: u32, t: u32) -> u32
+    fn ready(&self, owed: &ByActivity, past: u32, over: u32, t: u32) -> u32
         ensures { result ≡ word_of self.now.activities (ready_from self.now owed.now past over t) }
     {
-        let mut mask: u32 = 0;
-        for a in 0..self.activities {
-            mask = bits::mark(mask, a as u32, self.ready_at(owed, past, over, t, a));
-        }
-        mask
+        self.word(|a| self.ready_at(owed, past, over, t, a))
     }
 }
 
@@ -107,7 +103,7 @@ impl Walk {
     }
 
     // Passes a place of the ranking, where a mask has the activity that stands there.
-    fn take(self, widths: &[u32; 32], mask: u32) -> Walk
+    fn take(self, widths: &ByActivity, mask: u32) -> Walk
         ensures { result ≡ taking self widths.now mask }
     {
         let here = self.rest & mask;
@@ -145,8 +141,8 @@ impl Tables {
         ensures { result ≡ tick_word self.now state.now.owed state.now.ends t }
     {
         let none = [0u32; 32];
-        let past = state.ended(self.activities, &self.delays, t);
-        let over = state.ended(self.activities, &none, t);
+        let past = self.ended(state, &self.delays, t);
+        let over = self.ended(state, &none, t);
         self.select(self.ready(&state.owed, past, over, t))
     }
 }

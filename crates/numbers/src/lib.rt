@@ -1,7 +1,7 @@
 // The paper's numbers of the refusals, which answers fill the rows of the report, and what is printed of a figure and a digit.
 #![tactic(auto)]
 
-ghost use Rattle.std.specs.Prelude.{◌≡◌, ◌+◌, ◌-◌, ◌%◌, max, min, nat_abs};
+ghost use Rattle.std.specs.Prelude.{◌≡◌, ◌%◌};
 ghost use Rattle.schedule.specs.Report.{fills, is_dash};
 ghost use Rattle.schedule.specs.Lines.{hex_digit};
 ghost use Rattle.schedule.specs.declared.FormRefusal.{FormRefusal};
@@ -74,7 +74,7 @@ fn tick_number(rule: TickRule) -> u32
     }
 }
 
-// Those of the rules.
+// The numbers of the rules, 21 to 31 without 24.
 fn rule_number(why: RuleRefusal) -> u32
     ensures { result ≡ rule_number why }
 {
@@ -96,7 +96,7 @@ fn run_number(why: RunRefusal) -> u32
     }
 }
 
-// "A refusal answers its number, A and B".
+// "A refusal answers its number, A and B". A function and no From: both types are another crate's.
 pub fn refusal_numbers(x: Refusal) -> Numbered
     ensures { numbers_of result ≡ refusal_numbers x }
 {
@@ -134,13 +134,7 @@ pub fn wrap_number(why: WrapRefusal) -> u32
 pub fn fills(answer: RunVerdict) -> bool
     ensures { result ≡ fills (run_numbers answer) }
 {
-    match answer {
-        Ok(_) => true,
-        Err(x) => {
-            let said = refusal_numbers(x);
-            said.number == 43
-        }
-    }
+    matches!(answer, Ok(_) | Err(Refusal::Run(RunRefusal::Late, _)))
 }
 
 // "An activity whose thread has no period gets −2147483648, printed as a dash".

@@ -4,11 +4,16 @@
 
 ghost use Rattle.std.specs.Prelude.{◌≡◌, ◌+◌, ◌^◌, ◌≤◌, ◌<◌, List, ℕ, length, take, IfOk, IfErr};
 ghost use Rattle.std.specs.Io.KnownBytes.{Appends, Consumes, IsAtEnd};
+ghost use Rattle.programs.specs.declared.Failed.{Failed};
+ghost use Rattle.programs.specs.Outcome.{MatchFailed};
 
 use input::FillError;
 use std::io::{Read, Write};
 use std::marker::Model;
 use std::{fmt, io};
+
+// "at most 17,189 bytes of standard input"
+pub const LIMIT: usize = 17189;
 
 // The bytes at the front of an array.
 #[derive(Drop)]
@@ -42,12 +47,14 @@ impl<const N: usize> Front<N> {
         ensures end { IfOk result (λ front. length front < N → IsAtEnd (R.remaining reader.new)) }
         ensures failed { IfErr result (λ e. (came : List ℕ) × (length came ≡ e.read)
             × Consumes (R.remaining reader.old) (R.remaining reader.new) came) }
+        ensures within { IfErr result (λ e. e.read ≤ N) }
     {
         let mut bytes = [0u8; N];
         let len = input::fill(reader, &mut bytes)?;
         Ok(Front { bytes, len })
     }
 
+    // The bytes themselves.
     pub fn as_bytes(&self) -> &[u8]
         ensures value { result.now ≡ self.now }
         ensures within { length result.now ≤ N }
@@ -63,6 +70,16 @@ pub enum Failed {
     Output(io::Error),
 }
 
+// A read's error, which says nothing of how much had come.
+impl From<FillError> for Failed {
+    ghost from_gives = { λ x y. y ≡ Failed.Input x.error };
+
+    fn from(x: FillError) -> Failed {
+        Failed::Input(x.error)
+    }
+}
+
+// The message is the stream's name and the system's message.
 impl fmt::Display for Failed {
     fn fmt<W: fmt::Write>(&self, f: &mut fmt::Formatter<W>) -> fmt::Result {
         match self {
@@ -83,20 +100,22 @@ pub trait Program<const IN: usize, const OUT: usize> {
     ghost room: { IN + OUT < 2 ^ 62 };
 }
 
-// Reads to the end or as much as fits, and writes what the program prints of it. Where a read fails nothing is written.
+// Reads to the end or as much as fits, and writes what the program prints of it. Where a read fails nothing is written. Where a
+// write fails the input is read, and how much of the output came through is not known.
 pub fn run<P: Program<IN, OUT>, R: Read, W: Write, const IN: usize, const OUT: usize>(
     reader: &mut R,
     writer: &mut W,
 ) -> Result<(), Failed>
-    ensures { IfOk result (λ _. (read : List ℕ) × Consumes (R.remaining reader.old) (R.remaining reader.new) read
+    ensures done { IfOk result (λ _. (read : List ℕ) × Consumes (R.remaining reader.old) (R.remaining reader.new) read
         × (length read < IN → IsAtEnd (R.remaining reader.new))
         × Appends (W.contents writer.old) (W.contents writer.new) (P.printed read)) }
+    ensures failed { IfErr result (λ e. MatchFailed e
+        ((writer.new ≡ writer.old) × ((came : List ℕ) × (length came ≤ IN)
+        × Consumes (R.remaining reader.old) (R.remaining reader.new) came))
+        ((read : List ℕ) × Consumes (R.remaining reader.old) (R.remaining reader.new) read
+        × (length read < IN → IsAtEnd (R.remaining reader.new)))) }
 {
-    match Front::read(reader) {
-        Ok(input) => {
-            let printed = P::answer(&input);
-            writer.write_all(printed.as_bytes()).map_err(Failed::Output)
-        }
-        Err(e) => Err(Failed::Input(e.error)),
-    }
+    let input = Front::read(reader)?;
+    let printed = P::answer(&input);
+    writer.write_all(printed.as_bytes()).map_err(Failed::Output)
 }

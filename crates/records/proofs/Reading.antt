@@ -1,10 +1,11 @@
 -- A rule with no columns, tried row by row, and rules tried one after the other.
 -- Assumes nothing.
 use Prim.Native.Nat.{ℕ, ◌+◌, ◌<◌}
+use native.Mathlib.Omega.{arith}
 use mathlib.Core.Bool.{Bool, true, false, cond}
 use mathlib.Core.List.{List, [], ◌∷◌, ◌++◌}
 use mathlib.Core.Option.{Option, some, none}
-use mathlib.Core.Path.{◌≡◌, refl, sym, subst, ap, ap₂, ◌∙◌}
+use mathlib.Core.Path.{◌≡◌, refl, sym, ap, ap₂, ◌∙◌}
 use Rattle.std.specs.Prelude.{Result, Ok, Err}
 use Rattle.schedule.specs.Bounded.{first}
 use Rattle.schedule.specs.Rule
@@ -12,7 +13,9 @@ use Rattle.schedule.specs.Rule.{Rule, break, first_break}
 use Rattle.schedule.specs.Answers.{Answer, accepted, refused, answer}
 use Rattle.schedule.specs.Numbers.{refusal_numbers}
 use Rattle.schedule.specs.declared.Refusal.{Refusal}
-use Rattle.laws.proofs.RowLaws.{ClearTo, clear_again, clear-end, clear-stop, refusal_at, row_break}
+use Rattle.laws.proofs.Tests.{up_to}
+use Rattle.laws.proofs.FirstBreak.{first_some, first_ext}
+use Rattle.laws.proofs.RowLaws.{refusal_at, row_break}
 use Rattle.records.specs.declared.rows.Row.{Row}
 use Rattle.records.specs.Reads.{refusal_of, answer_at, row_answer, row_read_numbers, pass_numbers, pick}
 
@@ -41,26 +44,33 @@ row-break r a row e =
     one true = refl
     one false = refl
 
--- a loop over the rows of a rule: before row i none is broken, and row i is read
-module _ (r : Rule) (i : ℕ) (row : Row) (read : Result Row Refusal) (single : r.columns ≡ 1) (clear : ClearTo r i)
-    (e : row_read_numbers read ≡ row_answer r i row) where
-  broken : row_break r i ≡ refusal_of (row_read_numbers read)
-  broken = row-break r i row single ∙ ap refusal_of (sym e)
+-- rows read one by one, whose answers are those of f: before row i none is refused, and row i is read
+module _ (f : ℕ → Answer Row) (i : ℕ) (read : Result Row Refusal) (clear : (a : ℕ) → a < i → refusal_of (f a) ≡ none)
+    (e : row_read_numbers read ≡ f i) where
+  told-at : (x : Result Row Refusal) → read ≡ x → refusal_of (f i) ≡ refusal_of (row_read_numbers x)
+  told-at x told = ap refusal_of (sym e) ∙ ap (λ (y : Result Row Refusal). refusal_of (row_read_numbers y)) told
 
-  -- it is taken, and the rows stay clear
-  pub row-taken : (kept : Row) → read ≡ Ok kept → ClearTo r (i + 1)
-  row-taken kept told = clear_again r i clear (broken ∙ ap (λ (x : Result Row Refusal). refusal_of (row_read_numbers x)) told)
+  -- it is taken, and none up to it is refused
+  pub row-taken : (kept : Row) → read ≡ Ok kept → (a : ℕ) → a < i + 1 → refusal_of (f a) ≡ none
+  row-taken kept told a l = up_to (λ (a : ℕ). refusal_of (f a) ≡ none) i clear (told-at _ told) a (omega arith)
 
-  -- it is refused, and that is the rule's break
-  pub row-refused : (x : Refusal) (pass : Result (Unit {0}) Refusal) → i < r.rows → read ≡ Err x → pass ≡ Err x
-      → pass_numbers pass ≡ break r
-  row-refused x pass l told p =
+  -- it is refused, and first
+  pub row-refused : (rows : ℕ) (x : Refusal) (pass : Result (Unit {0}) Refusal) → i < rows → read ≡ Err x → pass ≡ Err x
+      → pass_numbers pass ≡ first rows (λ a. refusal_of (f a))
+  row-refused rows x pass l told p =
       ap pass_numbers p
-      ∙ sym (clear-stop r i (refusal_numbers x) clear l (broken ∙ ap (λ (x : Result Row Refusal). refusal_of (row_read_numbers x)) told))
+      ∙ sym ((first_some rows (λ a. refusal_of (f a)) (refusal_numbers x)).1 (
+        i,
+        record { below = l; found = told-at _ told; earlier = clear },
+      ))
 
--- all rows are clear
-pub rows_end : (r : Rule) (i : ℕ) → r.rows ≡ i → ClearTo r i → break r ≡ none
-rows_end r i e h = clear-end r (subst (ClearTo r) (sym e) h)
+-- the first refusal of a rule's rows is its break
+pub rows_break : (r : Rule) (rows : ℕ) (row : ℕ → Row) (o : Option Rule.Refusal) → rows ≡ r.rows → r.columns ≡ 1
+    → o ≡ first rows (λ a. refusal_of (row_answer r a (row a))) → o ≡ break r
+unfolding break row_break
+rows_break r rows row o e single told =
+    told ∙ ap (λ (n : ℕ). first n (λ a. refusal_of (row_answer r a (row a)))) e
+    ∙ first_ext r.rows _ (row_break r) (λ a l. sym (row-break r a (row a) single))
 
 -- ---- one rule after the other
 

@@ -24,6 +24,7 @@ pub fn thread_row(q: &[u8], j: Thread) -> Timing
 }
 
 // Thread row j of a choice, of any bytes, for a walk over all: release and period, and no priority.
+// It takes a number, and `thread_row` a Thread: only an activity's row hands one out.
 pub fn timing_at(q: &[u8], j: u8) -> Timing
     ensures { result ≡ timing ((choice q.now).release j) ((choice q.now).period j) }
 {
@@ -41,9 +42,7 @@ fn duration_at(threads: u8, a: u8) -> usize
 pub fn duration(q: &[u8], a: Activity) -> u16
     ensures { result ≡ (choice q.now).duration a.0 }
 {
-    let number = a.0;
-    let threads = fields::byte(q, 5);
-    fields::be16(q, duration_at(threads, number))
+    fields::be16(q, duration_at(fields::byte(q, 5), a.0))
 }
 
 // ---- rules 8 to 13
@@ -61,7 +60,6 @@ fn read_duration(s: &[u8], q: &[u8], a: Activity) -> Result<Row, Refusal>
         ≡ row_answer (duration_rule (model s.now) (choice q.now)) a.0
         (Row.Duration ((choice q.now).duration a.0)) }
 {
-    let number = a.0;
     let chosen = duration(q, a);
     let range = model::activity_row(s, a);
     let holds = form::within(range.least_duration, range.most_duration, chosen);
@@ -69,7 +67,7 @@ fn read_duration(s: &[u8], q: &[u8], a: Activity) -> Result<Row, Refusal>
         holds,
         Row::Duration(chosen),
         FormRefusal::DurationChoice,
-        number as u32,
+        a.0 as u32,
     )
 }
 
@@ -78,20 +76,17 @@ fn over_durations(s: &[u8], q: &[u8]) -> Result<(), Refusal>
     ensures { pass_numbers result ≡ break (duration_rule (model s.now) (choice q.now)) }
 {
     let sizes = model::counts(s);
-    for a in 0..sizes.activities {
-        let read = read_duration(s, q, Activity(a));
-        let Ok(_) = read else {
-            return read.map(|_| ());
-        };
-    }
-    Ok(())
+    rows::over(
+        sizes.activities as u16,
+        |a| read_duration(s, q, Activity(a as u8)),
+    )
 }
 
 // Rules 8 to 13, "in list order", beside the bytes of any model.
 pub fn read(s: &[u8], q: &[u8]) -> Result<(), Refusal>
     ensures { pass_numbers result ≡ first_break (choice_form (model s.now) q.now) }
 {
-    form::second_head(s, q, ROWS, true, formula(q))?;
+    form::second_head(q, ROWS, form::counts_hold(s, q), formula(q))?;
     timings::over_timings(s, q, ROWS)?;
     over_durations(s, q)
 }

@@ -1,11 +1,11 @@
 // What the rules of the three records share: a refusal's place, the four rules that come first, and the tests of length,
 // version, range and high bits.
-ghost use Rattle.std.specs.Prelude.{◌≡◌, ◌&&◌, eqb};
+ghost use Rattle.std.specs.Prelude.{◌≡◌, eqb};
 ghost use Rattle.std.proofs.Math.Option.{some};
 ghost use Rattle.schedule.specs.Fields.{field};
 ghost use Rattle.schedule.specs.Records.{within};
 ghost use Rattle.schedule.specs.Numbers.{form_number, refusal_numbers};
-ghost use Rattle.records.specs.Reads.{refusal_in, pass_numbers, sized, head_break, second_head};
+ghost use Rattle.records.specs.Reads.{refusal_in, pass_numbers, sized, head_break, second_names};
 ghost use Rattle.records.specs.Rows.{counts_hold, none_from};
 
 use crate::model;
@@ -22,11 +22,7 @@ pub(crate) fn refusal(why: FormRefusal, a: u32) -> Refusal
 fn length_holds(s: &[u8], k: usize) -> bool
     ensures { result ≡ sized k s.now }
 {
-    if k <= s.len() {
-        (fields::be32(s, 0) as usize) == s.len()
-    } else {
-        false
-    }
+    k <= s.len() && (fields::be32(s, 0) as usize) == s.len()
 }
 
 // "then a version byte, 1", and of a model up to the newest version.
@@ -43,21 +39,15 @@ fn formula_holds(s: &[u8], wanted: u32) -> bool
     fields::be32(s, 0) == wanted
 }
 
-// 10 "its n or m, or a plan's H, differs from the model's", where it is known whether H is the model's.
-fn counts_hold(s: &[u8], r: &[u8], same_horizon: bool) -> bool
-    ensures { result ≡ (same_horizon && counts_hold s.now r.now) }
+// 10 "its n or m .. differs from the model's"
+pub(crate) fn counts_hold(s: &[u8], r: &[u8]) -> bool
+    ensures { result ≡ counts_hold s.now r.now }
 {
     let sizes = model::counts(s);
-    if !same_horizon {
-        return false;
-    }
-    if fields::byte(r, 5) != sizes.threads {
-        return false;
-    }
-    fields::byte(r, 6) == sizes.activities
+    fields::byte(r, 5) == sizes.threads && fields::byte(r, 6) == sizes.activities
 }
 
-// low ≤ x ≤ high
+// Whether low ≤ x ≤ high.
 pub(crate) fn within(low: u16, high: u16, x: u16) -> bool
     ensures { result ≡ within low high x }
 {
@@ -73,7 +63,7 @@ pub(crate) fn none_from(word: u32, n: u8) -> bool
 
 // ---- the rules that name no row
 
-// Such a rule is broken: "A and B are 0 where not named".
+// A rule that names no row is broken: "A and B are 0 where not named".
 pub(crate) fn refused(why: FormRefusal) -> Result<(), Refusal>
     ensures { pass_numbers result ≡ some (refusal_in (form_number why) 0) }
 {
@@ -116,16 +106,10 @@ pub(crate) fn head(
     Ok(())
 }
 
-// Rules 8 to 11 of a choice or a plan beside a model. Its thread rows begin at a position, behind the bytes that it has at
-// least; a choice has no horizon that could differ from the model's.
-pub(crate) fn second_head(
-    s: &[u8],
-    r: &[u8],
-    first: u8,
-    same_horizon: bool,
-    wanted: u32,
-) -> Result<(), Refusal>
-    ensures { pass_numbers result ≡ second_head s.now r.now first same_horizon wanted }
+// Rules 8 to 11 of a choice or a plan, of which it is known whether its counts are the model's. Its thread rows begin at a
+// position, behind the bytes that it has at least.
+pub(crate) fn second_head(r: &[u8], first: u8, counts: bool, wanted: u32) -> Result<(), Refusal>
+    ensures { pass_numbers result ≡ head_break r.now second_names first 1 counts wanted }
 {
     let names = Names {
         size: FormRefusal::SecondSize,
@@ -133,5 +117,5 @@ pub(crate) fn second_head(
         counts: FormRefusal::SecondCounts,
         formula: FormRefusal::SecondFormula,
     };
-    head(r, names, first, 1, counts_hold(s, r, same_horizon), wanted)
+    head(r, names, first, 1, counts, wanted)
 }

@@ -1,6 +1,6 @@
 // The plan record: "n, m (1 each), H (2); n rows of release, period (2 each); m rows of start, end (2 each); H words of 4
 // bytes".
-ghost use Rattle.std.specs.Prelude.{◌≡◌, ◌+◌, ◌≤◌, ◌<◌, length};
+ghost use Rattle.std.specs.Prelude.{◌≡◌, ◌&&◌, ◌+◌, ◌≤◌, ◌<◌, length};
 ghost use Rattle.schedule.specs.Fields.{bytes, pair};
 ghost use Rattle.schedule.specs.Lent.{LiesAt};
 ghost use Rattle.schedule.specs.Rule.{break, first_break};
@@ -8,7 +8,7 @@ ghost use Rattle.schedule.specs.Model.{model};
 ghost use Rattle.schedule.specs.Plan.{plan, plan_form, plan_thread_row, plan_activity_row, grid_at, plan_grid, plan_grid_at};
 ghost use Rattle.schedule.specs.Plan.{plan_length, tick_at, word_in, word_rule};
 ghost use Rattle.fields.specs.Put.{put};
-ghost use Rattle.records.specs.Rows.{plan_sizes_of, timing, span_of, horizon_holds, none_from};
+ghost use Rattle.records.specs.Rows.{plan_sizes_of, timing, span_of, counts_hold, horizon_holds, none_from};
 ghost use Rattle.records.specs.Writes.{head_bytes};
 ghost use Rattle.records.specs.Reads.{answer_at, row_read_numbers, pass_numbers};
 
@@ -18,6 +18,7 @@ use crate::{form, grid, model, rows, timings};
 use schedule::{FormRefusal, Refusal};
 
 // The counts at the head of a plan.
+// `length`, `grid_at` and the writers take these as numbers, as the definitions do: they are called before there is a plan.
 #[derive(Clone, Copy)]
 pub struct PlanSizes {
     pub threads: u8,
@@ -86,6 +87,7 @@ pub fn thread_row(r: &[u8], j: Thread) -> Timing
 }
 
 // Thread row j of a plan, of any bytes, for a walk over all: release and period, and no priority.
+// It takes a number, and `thread_row` a Thread: only an activity's row hands one out.
 pub fn timing_at(r: &[u8], j: u8) -> Timing
     ensures { result ≡ timing ((plan r.now).release j) ((plan r.now).period j) }
 {
@@ -96,9 +98,7 @@ pub fn timing_at(r: &[u8], j: u8) -> Timing
 pub fn activity_row(r: &[u8], a: Activity) -> Span
     ensures { result ≡ span_of (plan r.now) a.0 }
 {
-    let number = a.0;
-    let threads = fields::byte(r, 5);
-    let at = activity_at(threads, number);
+    let at = activity_at(fields::byte(r, 5), a.0);
     Span {
         start: fields::be16(r, at),
         end: fields::be16(r, at + 2),
@@ -135,7 +135,7 @@ fn fill_pair(out: &mut [u8], at: usize, first: u16, second: u16)
     fields::put16(out, at + 2, second);
 }
 
-// The same, or nothing where there is no room.
+// A row of two fields of 2 bytes, or nothing where there is no room for it.
 fn put_pair(out: &mut [u8], at: usize, first: u16, second: u16)
     requires { at < 65536 }
     ensures { out.new ≡ put at (pair first second) out.old }
@@ -145,7 +145,7 @@ fn put_pair(out: &mut [u8], at: usize, first: u16, second: u16)
     }
 }
 
-// "n, m (1 each), H (2)", behind the length and the version; there is room for them.
+// "n, m (1 each), H (2)", behind the length and the version, where there is room for them.
 fn fill_head(out: &mut [u8], threads: u8, activities: u8, horizon: u16)
     requires { 9 ≤ length out.old }
     ensures { out.new ≡ put 0 (head_bytes threads activities horizon) out.old }
@@ -157,7 +157,7 @@ fn fill_head(out: &mut [u8], threads: u8, activities: u8, horizon: u16)
     fields::put16(out, 7, horizon);
 }
 
-// The same, or nothing where there is no room.
+// The length, the version and "n, m (1 each), H (2)", or nothing where there is no room for them.
 pub fn put_head(out: &mut [u8], threads: u8, activities: u8, horizon: u16)
     ensures { out.new ≡ put 0 (head_bytes threads activities horizon) out.old }
 {
@@ -178,8 +178,7 @@ pub fn put_activity_row(out: &mut [u8], threads: u8, a: Activity, row: Span)
     ensures { out.new
         ≡ put (plan_activity_row threads a.0) (pair row.start row.end) out.old }
 {
-    let number = a.0;
-    put_pair(out, activity_at(threads, number), row.start, row.end);
+    put_pair(out, activity_at(threads, a.0), row.start, row.end);
 }
 
 // The word of tick t, behind the rows of that many threads and activities.
@@ -196,12 +195,11 @@ pub fn put_word(out: &mut [u8], threads: u8, activities: u8, t: u16, word: u32)
 
 // ---- rules 8 to 12 and 14
 
-// 10 "a plan's H differs from the model's"
-fn horizon_holds(s: &[u8], r: &[u8]) -> bool
-    ensures { result ≡ horizon_holds s.now r.now }
+// 10 "its n or m, or a plan's H, differs from the model's"
+fn counts_hold(s: &[u8], r: &[u8]) -> bool
+    ensures { result ≡ (horizon_holds s.now r.now && counts_hold s.now r.now) }
 {
-    let sizes = model::counts(s);
-    fields::be16(r, 7) == sizes.horizon
+    fields::be16(r, 7) == model::counts(s).horizon && form::counts_hold(s, r)
 }
 
 // The word of tick t in a grid, or its refusal by rule 14, where there are so many activities: "a bit at or above m".
@@ -220,13 +218,7 @@ fn over_words(s: &[u8], r: &[u8]) -> Result<(), Refusal>
 {
     let sizes = model::counts(s);
     let grid = words(r);
-    for t in 0..sizes.horizon {
-        let read = read_word(grid, t, sizes.activities);
-        let Ok(_) = read else {
-            return read.map(|_| ());
-        };
-    }
-    Ok(())
+    rows::over(sizes.horizon, |t| read_word(grid, t, sizes.activities))
 }
 
 // Rules 8 to 12 and 14, "in list order", beside the bytes of any model.
@@ -235,7 +227,7 @@ pub fn read(s: &[u8], r: &[u8]) -> Result<(), Refusal>
 {
     let sizes = counts(r);
     let wanted = length(sizes.threads, sizes.activities, sizes.horizon);
-    form::second_head(s, r, ROWS, horizon_holds(s, r), wanted)?;
+    form::second_head(r, ROWS, counts_hold(s, r), wanted)?;
     timings::over_timings(s, r, ROWS)?;
     over_words(s, r)
 }

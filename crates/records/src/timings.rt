@@ -50,11 +50,5 @@ pub(crate) fn over_timings(s: &[u8], r: &[u8], first: u8) -> Result<(), Refusal>
     ensures { pass_numbers result ≡ break (timing_rule (model s.now) r.now first) }
 {
     let sizes = model::counts(s);
-    for j in 0..sizes.threads {
-        let read = read_timing(s, r, first, j);
-        let Ok(_) = read else {
-            return read.map(|_| ());
-        };
-    }
-    Ok(())
+    rows::over(sizes.threads as u16, |j| read_timing(s, r, first, j as u8))
 }

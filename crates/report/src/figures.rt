@@ -1,5 +1,5 @@
 // What a run that succeeds answers, without a page: "the length, usage, c times H, and makespan".
-ghost use Rattle.std.specs.Prelude.{◌≡◌, ◌*◌, ◌≤◌, get_or};
+ghost use Rattle.std.specs.Prelude.{◌≡◌, ◌*◌, ◌≤◌, length, get_or};
 ghost use Rattle.schedule.specs.Bounded.{total, greatest};
 ghost use Rattle.schedule.specs.Model.{model};
 ghost use Rattle.schedule.specs.Choice.{choice};
@@ -8,11 +8,13 @@ ghost use Rattle.schedule.specs.Numbers.{figure_numbers, written_numbers};
 ghost use Rattle.report.specs.Tables.{Below, AllEnded};
 
 use schedule::{Figures, Written};
+use tables::ByActivity;
 use tables::columns::Column;
 use tables::figures::Second;
 
-// "counted in core ticks" (U7 of 02): the sum of n durations, each times its width.
-fn core_ticks(n: usize, durations: &[u32; 32], widths: &[u32; 32]) -> u32
+// "counted in core ticks" (U7 of 02): the sum of n durations, each times its width. That n is at most 32 keeps the sum within 32
+// bits too.
+fn core_ticks(n: usize, durations: &ByActivity, widths: &ByActivity) -> u32
     requires { (n ≤ 32) × Below 65536 n durations.now × Below 256 n widths.now }
     ensures { result
         ≡ total n (λ a. get_or durations.now a 0 * get_or widths.now a 0) }
@@ -24,21 +26,20 @@ fn core_ticks(n: usize, durations: &[u32; 32], widths: &[u32; 32]) -> u32
     all
 }
 
-// The greatest of a table's first n entries.
-fn latest(n: usize, table: &[u32; 32]) -> u32
-    requires { n ≤ 32 }
-    ensures { result ≡ greatest n (λ a. get_or table.now a 0) }
+// The latest end. The function for the greatest that the tables have goes over a closure, and so is private to them.
+fn latest(ends: &[u32]) -> u32
+    ensures { result ≡ greatest (length ends.now) (λ a. get_or ends.now a 0) }
 {
     let mut latest: u32 = 0;
-    for a in 0..n {
-        latest = latest.max(table[a]);
+    for end in ends {
+        latest = latest.max(*end);
     }
     latest
 }
 
 // The figures of the machine's plan. Where nothing is owed every activity has been active for its duration, on as many cores
 // as it is wide.
-fn figures(s: &[u8], q: &[u8], ends: &[u32; 32]) -> Figures
+fn figures(s: &[u8], q: &[u8], ends: &ByActivity) -> Figures
     requires { AllEnded (model s.now) (choice q.now) ends.now }
     ensures { figure_numbers result
         ≡ figures (model s.now) (machine_plan (model s.now) (choice q.now)) }
@@ -54,13 +55,13 @@ fn figures(s: &[u8], q: &[u8], ends: &[u32; 32]) -> Figures
     Figures {
         usage: core_ticks(n, &durations, &widths),
         capacity,
-        makespan: latest(n, ends).saturating_sub(first),
+        makespan: latest(&ends[..n]).saturating_sub(first),
     }
 }
 
-// The same with the length of the plan.
+// What a run that succeeds answers: the length of the plan, and its figures.
 #[tactic(auto, unfolding(records::specs::Rows::sizes_of, schedule::specs::Answers::length_needed))]
-pub(crate) fn written(s: &[u8], q: &[u8], ends: &[u32; 32]) -> Written
+pub(crate) fn written(s: &[u8], q: &[u8], ends: &ByActivity) -> Written
     requires { AllEnded (model s.now) (choice q.now) ends.now }
     ensures { written_numbers result ≡ written (model s.now) (choice q.now) }
 {

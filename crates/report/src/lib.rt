@@ -30,7 +30,8 @@ fn verdict(s: &[u8], q: &[u8], played: &Played) -> RunVerdict
     Ok(figures::written(s, q, &played.ends))
 }
 
-// The answer, and the rows filled "for success and for 43; for every other answer no row is written".
+// The answer, and the rows filled "for success and for 43; for every other answer no row is written". The list is lent for
+// writing, so no one struct that is copied holds it beside the model and the choice.
 fn conclude(s: &[u8], q: &[u8], played: &Played, list: &mut [i32]) -> RunVerdict
     requires { Ended (model s.now) (choice q.now) played.now.judged played.now.ends × (rows_needed ≤ length list.old) }
     ensures { Reports (past_rows (model s.now) (choice q.now)) (model s.now)
@@ -44,7 +45,8 @@ fn conclude(s: &[u8], q: &[u8], played: &Played, list: &mut [i32]) -> RunVerdict
 }
 
 // The report past its input: "50, after the input, for a list under 32 rows; 41 does not arise here", then the machine, which
-// needs no page.
+// needs no page. That the model is formed stands in this one contract of the crate; a type for the checks and the run too would have
+// to be public.
 fn attempt(s: &[u8], q: &[u8], list: &mut [i32]) -> RunVerdict
     requires { Formed (model s.now) }
     ensures { Reports (past_input (model s.now) (choice q.now) (length list.old))

@@ -6,6 +6,7 @@ ghost use Rattle.schedule.specs.Choice.{choice};
 ghost use Rattle.schedule.specs.Report.{lateness, report_row, rows_needed};
 ghost use Rattle.report.specs.Tables.{row_from, Small, HasEnds};
 
+use tables::ByActivity;
 use tables::columns::Column;
 
 // The figure of an activity, which 32 bits hold.
@@ -16,8 +17,9 @@ fn figure(release: u32, period: u32, end: u32) -> i32
     ticks::lateness(release, period, end) as i32
 }
 
-// A row for each of n activities, from tables of what their threads chose and of their ends.
-fn fill(n: usize, releases: &[u32; 32], periods: &[u32; 32], ends: &[u32; 32], list: &mut [i32])
+// A row for each of n activities, from tables of what their threads chose and of their ends. Three tables and no rows: two are
+// filled from columns of the records (`tables::columns::table` is public), and the machine hands the third out.
+fn fill(n: usize, releases: &ByActivity, periods: &ByActivity, ends: &ByActivity, list: &mut [i32])
     requires { (n ≤ 32) × (n ≤ length list.old) × Small n releases.now periods.now ends.now }
     ensures { list.new
         ≡ table n (row_from releases.now periods.now ends.now) ++ drop n list.old }
@@ -28,7 +30,7 @@ fn fill(n: usize, releases: &[u32; 32], periods: &[u32; 32], ends: &[u32; 32], l
 }
 
 // "for each activity the deadline less its end"; "rows past the last activity stay untouched".
-pub(crate) fn write(s: &[u8], q: &[u8], ends: &[u32; 32], list: &mut [i32])
+pub(crate) fn write(s: &[u8], q: &[u8], ends: &ByActivity, list: &mut [i32])
     requires { HasEnds (model s.now) (choice q.now) ends.now × (rows_needed ≤ length list.old) }
     ensures { list.new
         ≡ table (model s.now).activities (report_row (model s.now) (choice q.now))

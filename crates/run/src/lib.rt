@@ -14,7 +14,8 @@ use schedule::{Place, Refusal, RunRefusal, RunVerdict, Written};
 mod plan;
 
 // The answer once the grid stands in the buffer: "42 and 43 set the plan's length of bytes to 0", a success writes the rest
-// of the plan. The form rules have passed, so the machine was played, and what is not refused is a success.
+// of the plan. The form rules have passed, so the machine was played, and what is not refused is a success. The buffer is lent
+// for writing, so no one struct that is copied holds it beside the model and the choice.
 fn conclude(s: &[u8], q: &[u8], played: &Played, out: &mut [u8]) -> RunVerdict
     requires { Standing (model s.now) (choice q.now) out.old played.now.judged played.now.ends }
     ensures { Answers (concluded (model s.now) (choice q.now)) (model s.now)
@@ -32,7 +33,8 @@ fn conclude(s: &[u8], q: &[u8], played: &Played, out: &mut [u8]) -> RunVerdict
     })
 }
 
-// The run past its input: "41 buffer shorter than the plan; A is the length needed", then the machine.
+// The run past its input: "41 buffer shorter than the plan; A is the length needed", then the machine. That the model is formed
+// stands in two contracts of the crate; a type for the checks and the report too would have to be public.
 fn attempt(s: &[u8], q: &[u8], out: &mut [u8]) -> RunVerdict
     requires { Formed (model s.now) }
     ensures { Answers (outcome (model s.now) (choice q.now) (length out.old))

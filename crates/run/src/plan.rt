@@ -12,6 +12,7 @@ ghost use Rattle.run.specs.Outcome.{Placed, FrontFits};
 use machine::Played;
 use records::model::Activity;
 use records::plan::Span;
+use tables::ByActivity;
 
 // ---- the grid
 
@@ -65,8 +66,8 @@ fn write_threads(q: &[u8], n: u8, out: &mut [u8])
     }
 }
 
-// An activity's row, from tables.
-fn activity_row(a: usize, starts: &[u32; 32], ends: &[u32; 32]) -> Span
+// An activity's row, from tables of starts and of ends. Two tables and no rows: the machine hands the ends out as one table.
+fn activity_row(a: usize, starts: &ByActivity, ends: &ByActivity) -> Span
     requires { (a < 32) × (get_or starts.now a 0 < 65536) × (get_or ends.now a 0 < 65536) }
     ensures { (result.start ≡ get_or starts.now a 0) × (result.end ≡ get_or ends.now a 0) }
 {
@@ -77,7 +78,7 @@ fn activity_row(a: usize, starts: &[u32; 32], ends: &[u32; 32]) -> Span
 }
 
 // "m rows of start, end (2 each)": the machine's, behind the rows of n threads.
-fn write_activities(n: u8, m: u8, starts: &[u32; 32], ends: &[u32; 32], out: &mut [u8])
+fn write_activities(n: u8, m: u8, starts: &ByActivity, ends: &ByActivity, out: &mut [u8])
     requires { (m ≤ 32) × (plan_activity_row n m ≤ length out.old)
         × ((a : ℕ) → a < m → (get_or starts.now a 0 < 65536) × (get_or ends.now a 0 < 65536)) }
     ensures { out.new
@@ -91,7 +92,7 @@ fn write_activities(n: u8, m: u8, starts: &[u32; 32], ends: &[u32; 32], out: &mu
 }
 
 // The activities of a word start at tick t.
-fn enter(word: u32, t: u32, starts: &mut [u32; 32])
+fn enter(word: u32, t: u32, starts: &mut ByActivity)
     ensures { Entered word t starts.old starts.new }
 {
     let mut rest = word;
@@ -102,8 +103,9 @@ fn enter(word: u32, t: u32, starts: &mut [u32; 32])
     }
 }
 
-// "Start is the first active tick": where each activity's bit is first set in the words of the grid, h where nowhere.
-fn starts(grid: &[u8], h: u16) -> [u32; 32]
+// "Start is the first active tick": where each activity's bit is first set in the words of the grid, h where nowhere: so the
+// definition has it of an activity that never starts (`Machine#machine_start`).
+fn starts(grid: &[u8], h: u16) -> ByActivity
     ensures { result ≡ table 32 (start_in grid.now h) }
 {
     let mut firsts = [h as u32; 32];
@@ -116,8 +118,8 @@ fn starts(grid: &[u8], h: u16) -> [u32; 32]
     firsts
 }
 
-// The same of the grid that stands in a buffer, from a position on.
-fn starts_from(out: &[u8], at: usize, h: u16) -> [u32; 32]
+// Where each activity's bit is first set in the grid that stands in a buffer, from a position on.
+fn starts_from(out: &[u8], at: usize, h: u16) -> ByActivity
     requires { at ≤ length out.now }
     ensures { result ≡ table 32 (start_in (drop at out.now) h) }
 {
@@ -125,7 +127,7 @@ fn starts_from(out: &[u8], at: usize, h: u16) -> [u32; 32]
 }
 
 // The header and the rows, in front of a grid that is written.
-pub(crate) fn write_front(s: &[u8], q: &[u8], ends: &[u32; 32], out: &mut [u8])
+pub(crate) fn write_front(s: &[u8], q: &[u8], ends: &ByActivity, out: &mut [u8])
     requires { FrontFits (model s.now) out.old ends.now }
     ensures { out.new
         ≡ put 0 (front_in (model s.now) (choice q.now) out.old ends.now)

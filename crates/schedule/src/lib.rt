@@ -1,8 +1,7 @@
 // The grid checker: what its calls answer. specs/Numbers.antt gives the paper's number and values for each case.
-
-// "A and B are the place", 0 where none is named.
 #![tactic(auto)]
 
+// "A and B are the place", 0 where none is named.
 #[derive(Clone, Copy)]
 pub struct Place {
     pub a: u32,

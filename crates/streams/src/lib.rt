@@ -30,12 +30,14 @@ fn cut(input: &[u8]) -> usize
     length
 }
 
+// "the first record, L bytes", or everything.
 pub fn first_record(input: &[u8]) -> &[u8]
     ensures { (result.now ≡ first_record input.now) × LiesAt input.entry 0 result }
 {
     &input[..cut(input)]
 }
 
+// "the rest is the second", or nothing.
 pub fn second_record(input: &[u8]) -> &[u8]
     ensures { (result.now ≡ second_record input.now)
         × LiesAt input.entry (length (first_record input.now)) result }

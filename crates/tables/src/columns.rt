@@ -1,5 +1,5 @@
 // Columns of the records by activity.
-ghost use Rattle.std.specs.Prelude.{◌≡◌, min};
+ghost use Rattle.std.specs.Prelude.{◌≡◌, ◌≤◌, min};
 ghost use Rattle.schedule.specs.Model.{model};
 ghost use Rattle.tables.specs.Columns.{among_activities, entry_of, column_of};
 ghost use Rattle.schedule.specs.Bounded.{bit};
@@ -26,19 +26,27 @@ pub enum Column {
     PlanEnd,
 }
 
-// How many activities have a place in a table: all of a model that meets its form rules.
-pub(crate) fn rows(s: &[u8]) -> u8
-    ensures { result ≡ min (model s.now).activities 32 }
+// How many activities have a place in a table, and a bit in a word.
+#[derive(Clone, Copy)]
+pub(crate) struct Places {
+    pub(crate) n: u8,
+    ghost few: { n ≤ 32 },
+}
+
+// All activities of a model that meets its form rules have a place.
+pub(crate) fn rows(s: &[u8]) -> Places
+    ensures { result.n ≡ min (model s.now).activities 32 }
 {
-    records::model::counts(s).activities.min(32)
+    Places {
+        n: records::model::counts(s).activities.min(32),
+    }
 }
 
 // The bits of a mask that are activities of the model.
 fn among(s: &[u8], mask: u32) -> u32
     ensures { result ≡ among_activities (model s.now) (bit mask) }
 {
-    let sizes = records::model::counts(s);
-    mask & bits::below(sizes.activities as u32)
+    mask & bits::below(records::model::counts(s).activities as u32)
 }
 
 // A column's entry for activity a: "priority is looked up by an activity's thread", and so are release and period. Which column
@@ -66,5 +74,5 @@ fn entry(which: Column, s: &[u8], second: &[u8], a: Activity) -> u32
 pub fn table(which: Column, s: &[u8], second: &[u8]) -> ByActivity
     ensures { result ≡ column_of which s.now second.now }
 {
-    each::table(rows(s), |a| entry(which, s, second, Activity(a)))
+    each::table(rows(s).n, |a| entry(which, s, second, Activity(a)))
 }

@@ -26,10 +26,9 @@ pub fn counts(s: &[u8], r: &[u8]) -> ByActivity
     ensures { result ≡ table 32 (count_of (model s.now) (plan r.now)) }
 {
     let sizes = records::model::counts(s);
-    let horizon = sizes.horizon;
     let grid = records::plan::words(r);
     let mut counted = [0u32; 32];
-    for t in 0..horizon {
+    for t in 0..sizes.horizon {
         tally(records::grid::word(grid, t as usize), &mut counted);
     }
     counted

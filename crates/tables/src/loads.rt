@@ -1,11 +1,11 @@
 // The cores that a word's activities take: "the sum of active widths" (U7 of 02). The ones are counted by the language's own
 // operation, once for each binary digit of the widths, over the activities whose width has that digit.
-ghost use Rattle.std.specs.Prelude.{◌≡◌, ◌≤◌, ◌^◌, ltb, get_or};
+ghost use Rattle.std.specs.Prelude.{◌≡◌, ◌^◌, ltb, get_or};
 ghost use Rattle.schedule.specs.Bounded.{bit, greatest, lowest, word_of};
 ghost use Rattle.schedule.specs.Model.{model};
 ghost use Rattle.tables.specs.Loads.{widths_of, load_from};
 
-use crate::columns::Column;
+use crate::columns::{Column, Places};
 use crate::{ByActivity, columns, each};
 
 // The widths of a model's activities by binary digits: plane j holds those whose width has the digit worth 2 to the power j.
@@ -31,23 +31,22 @@ fn digits(x: u32) -> u8
 }
 
 // The activities whose width has digit j.
-fn plane(n: u8, column: &ByActivity, j: u8) -> u32
-    requires { n ≤ 32 }
-    ensures { result ≡ word_of n (λ a. bit (get_or column.now a 0) j) }
+fn plane(places: Places, column: &ByActivity, j: u8) -> u32
+    ensures { result ≡ word_of places.n (λ a. bit (get_or column.now a 0) j) }
 {
-    each::word(n, |a| bits::has(column[a as usize], j as u32))
+    each::word(places, |a| bits::has(column[a as usize], j as u32))
 }
 
 // The widths of a model's activities.
 pub fn widths_of(s: &[u8]) -> Widths
     ensures { result ≡ widths_of (model s.now) }
 {
-    let n = columns::rows(s);
+    let places = columns::rows(s);
     // a column of the model: the second record plays no part
     let column = columns::table(Column::Width, s, s);
-    let depth = digits(each::greatest(n, |a| column[a as usize]));
+    let depth = digits(each::greatest(places.n, |a| column[a as usize]));
     Widths {
-        planes: each::table(depth, |j| plane(n, &column, j)),
+        planes: each::table(depth, |j| plane(places, &column, j)),
         depth: depth as u32,
     }
 }

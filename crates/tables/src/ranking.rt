@@ -1,10 +1,10 @@
 // Who ranks before whom: "Rank the ready by priority, highest first, then by lower activity number".
-ghost use Rattle.std.specs.Prelude.{◌≡◌, ◌≤◌, ◌<◌, get_or};
+ghost use Rattle.std.specs.Prelude.{◌≡◌, ◌<◌, get_or};
 ghost use Rattle.schedule.specs.Model.{model};
 ghost use Rattle.schedule.specs.Bounded.{word_of};
 ghost use Rattle.tables.specs.Ranking.{ranks, ranking_of};
 
-use crate::columns::Column;
+use crate::columns::{Column, Places};
 use crate::{ByActivity, columns, each};
 use records::model::Activity;
 
@@ -19,7 +19,7 @@ pub enum Order {
     Before,
 }
 
-// b comes before a, where a table holds the priorities.
+// b comes before a, where a table holds the priorities. Which order it is stays a value, since a public function takes it.
 fn precedes(order: Order, priorities: &ByActivity, b: Activity, a: Activity) -> bool
     requires { (b.0 < 32) × (a.0 < 32) }
     ensures { result ≡ ranks order (λ i. get_or priorities.now i 0) b.0 a.0 }
@@ -34,19 +34,19 @@ fn precedes(order: Order, priorities: &ByActivity, b: Activity, a: Activity) -> 
 }
 
 // The activities that come before a.
-fn mask(order: Order, n: u8, priorities: &ByActivity, a: Activity) -> u32
-    requires { (n ≤ 32) × (a.0 < 32) }
-    ensures { result ≡ word_of n (λ b. ranks order (λ i. get_or priorities.now i 0) b a.0) }
+fn mask(order: Order, places: Places, priorities: &ByActivity, a: Activity) -> u32
+    requires { a.0 < 32 }
+    ensures { result ≡ word_of places.n (λ b. ranks order (λ i. get_or priorities.now i 0) b a.0) }
 {
-    each::word(n, |b| precedes(order, priorities, Activity(b), a))
+    each::word(places, |b| precedes(order, priorities, Activity(b), a))
 }
 
 // For each activity of a model the activities that come before it, none from there on.
 pub fn masks(order: Order, s: &[u8]) -> ByActivity
     ensures { result ≡ ranking_of order (model s.now) }
 {
-    let n = columns::rows(s);
+    let places = columns::rows(s);
     // a column of the model: the second record plays no part
     let priorities = columns::table(Column::Priority, s, s);
-    each::table(n, |a| mask(order, n, &priorities, Activity(a)))
+    each::table(places.n, |a| mask(order, places, &priorities, Activity(a)))
 }

@@ -62,6 +62,8 @@ fn minus(negative: bool) -> &'static [u8]
 }
 
 // ---- lengths
+//
+// The rows are written whole or not at all, so their length is measured before a byte is written.
 
 // The length of a row with the end of its line.
 fn row_length(row: Row) -> usize

@@ -37,6 +37,8 @@ struct Said {
     c: u32,
 }
 
+// A refusal's number and its place. Each of the three conversions to Said has a name that tells of which answer it is made, so
+// `Said::from` three times would be no plainer.
 fn refusal_said(x: Refusal) -> Said
     ensures { result ≡ refusal_said (refusal_numbers x) }
 {
@@ -49,6 +51,7 @@ fn refusal_said(x: Refusal) -> Said
     }
 }
 
+// The figures of an accepted check, or its refusal.
 fn verdict_said(v: Verdict) -> Said
     ensures { result ≡ verdict_said (verdict_numbers v) }
 {
@@ -63,21 +66,11 @@ fn verdict_said(v: Verdict) -> Said
     }
 }
 
+// The figures of an accepted run, or its refusal.
 fn run_said(v: RunVerdict) -> Said
     ensures { result ≡ run_said (run_numbers v) }
 {
-    match v {
-        Ok(w) => {
-            let f = w.figures;
-            Said {
-                passed: true,
-                a: f.usage,
-                b: f.capacity,
-                c: f.makespan,
-            }
-        }
-        Err(x) => refusal_said(x),
-    }
+    verdict_said(v.map(|w| w.figures))
 }
 
 // ` accepted ` or ` refused `.
@@ -102,6 +95,9 @@ fn ticks(answer: RunVerdict, plan: &[u8]) -> u32
 }
 
 // ---- lengths
+//
+// A text is written whole or not at all, so its length is measured before a byte is written: each text has a length here and a
+// writing below.
 
 // How many decimal digits a number has. The loop goes on while digits are left, so it is no range.
 fn decimal_length(n: u32) -> usize
@@ -144,20 +140,17 @@ fn ticks_length(h: u32) -> usize
 
 // ---- storing at a position; the answer is the position behind what was stored
 
-// A number in decimal, from the last digit back to the first. The loop goes on while digits are left, so it is no range.
+// A number in decimal, from the last digit back to the first.
 fn store_decimal(out: &mut [u8], at: usize, n: u32) -> usize
     requires { at + length (decimal n) ≤ length out.old }
     ensures { Appended at (decimal n) out.old result out.new }
 {
     let k = decimal_length(n);
-    let mut i = k - 1;
     let mut rest = n;
-    while 10 <= rest {
+    for i in (0..k).rev() {
         out[at + i] = hex_digit((rest % 10) as u8);
-        rest = rest / 10;
-        i -= 1;
+        rest /= 10;
     }
-    out[at] = hex_digit(rest as u8);
     at + k
 }
 
@@ -251,6 +244,9 @@ impl Writer<'_> {
 }
 
 // ---- the programs' output
+//
+// A call answers how many bytes it wrote, and no text is empty, so 0 says that the text does not fit: README's contracts give the
+// number (`leaves`, `printed`).
 
 // "prints two lines, the first beginning `plain`, the second `strict`; then `accepted` and the three figures, or
 // `refused` and number, A, B". Answers their length; where they do not fit, nothing is written and the answer is 0.
@@ -271,7 +267,8 @@ pub fn check_lines(out: &mut [u8], plain: Verdict, strict: Verdict) -> usize
 }
 
 // "prints on success a line for each tick, the tick then the word as 8 lowercase hexadecimal digits, then `run accepted`
-// with the three figures; else only `run refused` with number, A, B". Whole or nothing, as above.
+// with the three figures; else only `run refused` with number, A, B". Answers their length; where they do not fit, nothing is
+// written and the answer is 0.
 pub fn run_lines(out: &mut [u8], answer: RunVerdict, plan: &[u8]) -> usize
     ensures { leaves result out.new
         ≡ printed (run_lines (run_numbers answer) (Plan.plan plan.now)) out.old }
@@ -289,7 +286,8 @@ pub fn run_lines(out: &mut [u8], answer: RunVerdict, plan: &[u8]) -> usize
 }
 
 // "A program like `gridrun` prints activity and figure by line, for 43 too, then the last line". As many rows as there are
-// activities; a row that is not there counts as 0. Whole or nothing, as above.
+// activities; a row that is not there counts as 0. Answers the length of the lines; where they do not fit, nothing is written and
+// the answer is 0.
 pub fn late_lines(out: &mut [u8], answer: RunVerdict, activities: u8, rows: &[i32]) -> usize
     ensures { leaves result out.new
         ≡ printed (late_lines (run_numbers answer) activities rows.now) out.old }

@@ -35,7 +35,8 @@ pub fn on_time(release: u32, period: u32, end: u32) -> bool
     period == 0 || end as u64 <= deadline(release, period)
 }
 
-// "the deadline less its end, as a signed whole number, negative when late and 0 on the dot", and −2147483648 without a period.
+// "the deadline less its end, as a signed whole number, negative when late and 0 on the dot"; "An activity whose thread has no
+// period gets −2147483648", so a number and no Option.
 pub fn lateness(release: u32, period: u32, end: u32) -> i64
     ensures { result ≡ lateness release period end }
 {
@@ -78,7 +79,7 @@ pub struct Kept {
 }
 
 impl Kept {
-    // It is still the word of tick t.
+    // Whether the kept word is still the word of tick t.
     pub fn lasts(self, t: u32) -> bool
         ensures { result ≡ ltb t self.until }
     {
@@ -86,7 +87,7 @@ impl Kept {
     }
 }
 
-// No word is known yet.
+// What is kept before any word is known: it lasts at no tick.
 pub fn unknown() -> Kept
     ensures { result ≡ record { word = 0; until = 0 } }
 {

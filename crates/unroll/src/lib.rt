@@ -5,7 +5,8 @@
 ghost use Rattle.std.specs.Prelude.{◌≡◌, ◌+◌, ◌*◌, ◌/◌, ◌%◌, ◌≤◌};
 ghost use Rattle.schedule.specs.Rounds.{in_all, number_in, moved_release, moved_mask, with_loop};
 
-// The loop byte of an activity that has none.
+// The loop byte of an activity that has no loop. A byte and no Option: the record has it (rule 53), and the public `with_loop`
+// takes it.
 pub const NO_LOOP: u8 = 255;
 
 // A product of numbers of a byte each.
@@ -30,7 +31,7 @@ pub fn round(number: u8, n: u8) -> u8
     number.checked_div(n).unwrap_or(0)
 }
 
-// Its place in that round.
+// The place in its round of a number among all, where each round has n.
 pub fn place(number: u8, n: u8) -> u8
     ensures { result ≡ number % n }
 {
@@ -51,7 +52,7 @@ pub fn moved(k: u8, period: u16, release: u16) -> u32
     (release as u32) + (k as u32) * (period as u32)
 }
 
-// The same as a field of 2 bytes.
+// A release moved on to round k, as a field of 2 bytes.
 pub fn release(k: u8, period: u16, release: u16) -> u16
     ensures { result ≡ moved_release k period release }
 {

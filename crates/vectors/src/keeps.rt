@@ -1,17 +1,9 @@
 // The stored cases of edits through a state: marks, clears, asks and keeps.
-use crate::{next_number, next_record, print_bytes, print_edited, print_numbers, print_refused};
-use edit_rules::{Edit, Edited, Editing, Kept, Step, Told};
+use crate::{next_number, next_record, print_bytes, print_done, print_numbers, print_refused};
+use edit_rules::{Edit, Edited, Editing, Step, Told};
 use schedule::{Figures, Verdict};
 use std::io;
 use std::io::{Read, Write};
-
-// Prints what a keep answers.
-fn print_kept<W: Write>(out: &mut W, answer: Kept) -> io::Result<()> {
-    match answer {
-        Ok(()) => writeln!(out, "done"),
-        Err(why) => print_numbers(out, edits::unkept_numbers(why)),
-    }
-}
 
 // Prints the three figures.
 fn print_figures<W: Write>(out: &mut W, f: Figures) -> io::Result<()> {
@@ -56,13 +48,13 @@ fn keep<W: Write>(
     plan: &mut [u8],
 ) -> io::Result<Editing> {
     let step = edits::keep(state, model, plan);
-    print_kept(out, step.answer)?;
+    print_done(out, step.answer.map_err(edits::unkept_numbers))?;
     Ok(step.state)
 }
 
 // A call of an editor.
 #[derive(Clone, Copy)]
-enum Call {
+pub enum Call {
     Clear,
     Mark,
     AskClear,
@@ -91,7 +83,7 @@ fn edited(state: Editing, model: &[u8], plan: &mut [u8], e: Edit) -> Step<Edited
     edits::clear_with(state, model, plan, e.activity, e.tick)
 }
 
-// Makes that edit, prints what it answers, and hands on the state.
+// Makes a mark or a clear, prints what it answers, and hands on the state.
 fn edit<W: Write>(
     out: &mut W,
     state: Editing,
@@ -100,7 +92,7 @@ fn edit<W: Write>(
     e: Edit,
 ) -> io::Result<Editing> {
     let step = edited(state, model, plan, e);
-    print_edited(out, step.answer)?;
+    print_done(out, step.answer.map_err(edits::reason_numbers))?;
     Ok(step.state)
 }
 
@@ -144,7 +136,7 @@ fn next_steps<R: Read, W: Write>(
 pub fn next_case<R: Read, W: Write>(cases: &mut R, out: &mut W) -> io::Result<()> {
     let mut model = [0u8; 1024];
     let mut plan = [0u8; 17189];
-    let m = next_record(cases, &mut model);
-    let p = next_record(cases, &mut plan);
-    next_steps(cases, out, &model[..m], &mut plan[..p])
+    let model = next_record(cases, &mut model);
+    let plan = next_record(cases, &mut plan);
+    next_steps(cases, out, model, plan)
 }

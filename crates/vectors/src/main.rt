@@ -20,11 +20,12 @@
 // unrefused ask its verdict.
 #![tactic(auto)]
 
-ghost use Rattle.std.specs.Prelude.{◌≡◌, ◌≤◌, length, take};
+ghost use Rattle.std.specs.Prelude.{◌≡◌, ◌≤◌, length};
 ghost use Rattle.schedule.specs.Numbers.{word_numbers};
 ghost use Rattle.schedule.specs.Streams.{view_word};
 
 use edit_rules::Edited;
+use keeps::Call;
 use numbers::{refusal_numbers, wrap_number};
 use schedule::{Chosen, Numbered, Part, Refusal, Side, Standing, WrapRefused};
 use std::io::{BufWriter, Read, Write};
@@ -49,16 +50,14 @@ fn next_number<R: Read>(cases: &mut R) -> u32 {
     fields::be32(&four, 0)
 }
 
-// Reads the next record into the start of the buffer and answers its length; 0 where the buffer is too short.
-fn next_record<R: Read>(cases: &mut R, buf: &mut [u8]) -> usize
-    ensures within { result ≤ length buf.new }
-    ensures taken { result ≡ length (take result buf.new) }
-{
+// Reads the next record into the start of the buffer and answers that part; an empty one where the buffer is too short.
+fn next_record<'a, R: Read>(cases: &mut R, buf: &'a mut [u8]) -> &'a mut [u8] {
     let n = next_number(cases) as usize;
     if buf.len() < n {
-        return 0;
+        return &mut buf[..0];
     }
-    read_full(cases, &mut buf[..n])
+    let came = read_full(cases, &mut buf[..n]);
+    &mut buf[..came]
 }
 
 // Prints the two lines of a model and a plan. They take at most 97 bytes.
@@ -76,10 +75,12 @@ fn print_lines<W: Write>(out: &mut W, model: &[u8], plan: &[u8]) -> io::Result<(
 fn next_check<R: Read, W: Write>(cases: &mut R, out: &mut W) -> io::Result<()> {
     let mut model = [0u8; 1024];
     let mut plan = [0u8; 17189];
-    let m = next_record(cases, &mut model);
-    let p = next_record(cases, &mut plan);
-    print_lines(out, &model[..m], &plan[..p])
+    let model = next_record(cases, &mut model);
+    let plan = next_record(cases, &mut plan);
+    print_lines(out, model, plan)
 }
+
+// What is printed is of other crates, whose types can have no Display here: so there is a function for each.
 
 // Prints bytes behind their name.
 fn print_bytes<W: Write>(out: &mut W, name: &str, bytes: &[u8]) -> io::Result<()> {
@@ -109,10 +110,10 @@ fn next_run<R: Read, W: Write>(cases: &mut R, out: &mut W) -> io::Result<()> {
     let mut model = [0u8; 1024];
     let mut choice = [0u8; 256];
     let mut plan = [0u8; 17189];
-    let m = next_record(cases, &mut model);
-    let c = next_record(cases, &mut choice);
-    let n = next_record(cases, &mut plan);
-    print_run(out, &model[..m], &choice[..c], &mut plan[..n])
+    let model = next_record(cases, &mut model);
+    let choice = next_record(cases, &mut choice);
+    let plan = next_record(cases, &mut plan);
+    print_run(out, model, choice, plan)
 }
 
 // The next tick of the file.
@@ -122,11 +123,12 @@ fn next_tick<R: Read>(cases: &mut R) -> usize {
     high * 4294967296 + low
 }
 
-// Prints a refusal's number and place.
+// Prints a refusal by its numbers.
 fn print_refused<W: Write>(out: &mut W, x: Refusal) -> io::Result<()> {
     print_numbers(out, refusal_numbers(x))
 }
 
+// Prints a refusal's number, A and B.
 fn print_numbers<W: Write>(out: &mut W, said: Numbered) -> io::Result<()> {
     writeln!(out, "refused {} {} {}", said.number, said.a, said.b)
 }
@@ -151,11 +153,11 @@ fn print_word<W: Write>(out: &mut W, found: Option<u32>) -> io::Result<()> {
 fn next_view<R: Read, W: Write>(cases: &mut R, out: &mut W) -> io::Result<()> {
     let mut model = [0u8; 1024];
     let mut plan = [0u8; 17189];
-    let m = next_record(cases, &mut model);
-    let p = next_record(cases, &mut plan);
+    let model = next_record(cases, &mut model);
+    let plan = next_record(cases, &mut plan);
     let t = next_tick(cases);
-    print_making(out, view::refusal(&model[..m], &plan[..p]))?;
-    print_word(out, view::word_at(&model[..m], &plan[..p], t))
+    print_making(out, view::refusal(model, plan))?;
+    print_word(out, view::word_at(model, plan, t))
 }
 
 // What a view gives at three ticks.
@@ -192,13 +194,13 @@ fn print_words<W: Write>(out: &mut W, asked: Asked) -> io::Result<()> {
 fn next_held<R: Read, W: Write>(cases: &mut R, out: &mut W) -> io::Result<()> {
     let mut model = [0u8; 1024];
     let mut plan = [0u8; 17189];
-    let m = next_record(cases, &mut model);
-    let p = next_record(cases, &mut plan);
+    let model = next_record(cases, &mut model);
+    let plan = next_record(cases, &mut plan);
     let first = next_tick(cases);
     let second = next_tick(cases);
     let third = next_tick(cases);
-    print_making(out, view::refusal(&model[..m], &plan[..p]))?;
-    print_words(out, ask(&model[..m], &plan[..p], first, second, third))
+    print_making(out, view::refusal(model, plan))?;
+    print_words(out, ask(model, plan, first, second, third))
 }
 
 // Prints the two records of an input.
@@ -210,15 +212,15 @@ fn print_split<W: Write>(out: &mut W, input: &[u8]) -> io::Result<()> {
 // Reads the next case of the splitter and prints its two records.
 fn next_split<R: Read, W: Write>(cases: &mut R, out: &mut W) -> io::Result<()> {
     let mut input = [0u8; 256];
-    let n = next_record(cases, &mut input);
-    print_split(out, &input[..n])
+    let input = next_record(cases, &mut input);
+    print_split(out, input)
 }
 
 // The rows that are lent, all different: 100, 101, 102, ..
 fn rows_before() -> [i32; 128] {
     let mut rows = [0i32; 128];
-    for a in 0..128usize {
-        rows[a] = (100 + a) as i32;
+    for (a, row) in rows.iter_mut().enumerate() {
+        *row = 100 + a as i32;
     }
     rows
 }
@@ -251,11 +253,11 @@ fn print_report<W: Write>(
 fn next_report<R: Read, W: Write>(cases: &mut R, out: &mut W) -> io::Result<()> {
     let mut model = [0u8; 1024];
     let mut choice = [0u8; 256];
-    let m = next_record(cases, &mut model);
-    let c = next_record(cases, &mut choice);
+    let model = next_record(cases, &mut model);
+    let choice = next_record(cases, &mut choice);
     let lent = next_number(cases).min(128) as usize;
     let mut rows = rows_before();
-    print_report(out, &model[..m], &choice[..c], &mut rows[..lent])
+    print_report(out, model, choice, &mut rows[..lent])
 }
 
 // Prints a refusal of wrapped records at a record.
@@ -289,34 +291,34 @@ fn print_chosen<W: Write>(out: &mut W, found: Chosen) -> io::Result<()> {
 fn next_pair<R: Read, W: Write>(cases: &mut R, out: &mut W) -> io::Result<()> {
     let mut first = [0u8; 1024];
     let mut second = [0u8; 1024];
-    let f = next_record(cases, &mut first);
-    let s = next_record(cases, &mut second);
-    print_standing(out, exchange::which_stands(&first[..f], &second[..s]))?;
-    print_bytes(out, "part", exchange::stands(&first[..f], &second[..s]))
+    let first = next_record(cases, &mut first);
+    let second = next_record(cases, &mut second);
+    print_standing(out, exchange::which_stands(first, second))?;
+    print_bytes(out, "part", exchange::stands(first, second))
 }
 
 // Reads the next file of wrapped records and prints which one is chosen and what is handed back.
 fn next_file<R: Read, W: Write>(cases: &mut R, out: &mut W) -> io::Result<()> {
     let mut file = [0u8; 1024];
-    let n = next_record(cases, &mut file);
-    print_chosen(out, exchange::choose(&file[..n]))?;
-    print_bytes(out, "part", exchange::chosen(&file[..n]))
+    let file = next_record(cases, &mut file);
+    print_chosen(out, exchange::choose(file))?;
+    print_bytes(out, "part", exchange::chosen(file))
 }
 
-// Prints what a mark or a clear answers.
-fn print_edited<W: Write>(out: &mut W, answer: Edited) -> io::Result<()> {
+// Prints what a mark, a clear or a keep answers: done, or the numbers of its refusal.
+fn print_done<W: Write>(out: &mut W, answer: Result<(), Numbered>) -> io::Result<()> {
     match answer {
         Ok(()) => writeln!(out, "done"),
-        Err(why) => print_numbers(out, edits::reason_numbers(why)),
+        Err(said) => print_numbers(out, said),
     }
 }
 
 // Reads the next call, a mark or a clear, and makes it.
 fn next_call<R: Read>(cases: &mut R, model: &[u8], plan: &mut [u8]) -> Edited {
-    let marks = next_number(cases) == 1;
+    let call = Call::from(next_number(cases));
     let activity = next_number(cases);
     let tick = next_number(cases);
-    if marks {
+    if matches!(call, Call::Mark) {
         edits::mark(model, plan, activity, tick)
     } else {
         edits::clear(model, plan, activity, tick)
@@ -332,7 +334,8 @@ fn next_calls<R: Read, W: Write>(
 ) -> io::Result<()> {
     let count = next_number(cases);
     for _ in 0..count {
-        print_edited(out, next_call(cases, model, plan))?;
+        let answer = next_call(cases, model, plan);
+        print_done(out, answer.map_err(edits::reason_numbers))?;
     }
     print_bytes(out, "plan", plan)
 }
@@ -341,9 +344,9 @@ fn next_calls<R: Read, W: Write>(
 fn next_edits<R: Read, W: Write>(cases: &mut R, out: &mut W) -> io::Result<()> {
     let mut model = [0u8; 1024];
     let mut plan = [0u8; 17189];
-    let m = next_record(cases, &mut model);
-    let p = next_record(cases, &mut plan);
-    next_calls(cases, out, &model[..m], &mut plan[..p])
+    let model = next_record(cases, &mut model);
+    let plan = next_record(cases, &mut plan);
+    next_calls(cases, out, model, plan)
 }
 
 // Reads how many cases of a kind there are, then each by what reads and prints the next one, and prints it behind its number.

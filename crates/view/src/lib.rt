@@ -11,7 +11,8 @@ ghost use Rattle.view.specs.Grid.{held_bytes, held_from, grid_word, HeldOver};
 
 use schedule::Refusal;
 
-// "a struct over the plan's grid slice", and what its making answered.
+// "a struct over the plan's grid slice", and what its making answered. No Result of a view: making one cannot fail, and a refused
+// making leaves a view too, over no words.
 #[derive(Clone, Copy)]
 pub struct View<'a> {
     pub grid: &'a [u8],

@@ -12,7 +12,7 @@ pub returns-in-Ok-First : goal.returns-in-Ok-First
 returns-in-Ok-First c =
     let told : c.which_stands.result ≡ Ok Side.First = search rules in
     let x = c.args in
-    c.part.ensures
+    c.from.ensures
     ∙ ap part_exported (sym (pair-placed x.first.now x.second.now 0
     (sym c.which_stands.ensures ∙ ap standing_numbers told)))
 
@@ -20,13 +20,13 @@ pub returns-in-Ok-Second : goal.returns-in-Ok-Second
 returns-in-Ok-Second c =
     let told : c.which_stands.result ≡ Ok Side.Second = search rules in
     let x = c.args in
-    c.part-in-Ok-Second.ensures
+    c.from-in-Ok-Second.ensures
     ∙ ap part_exported (sym (pair-placed x.first.now x.second.now 1
     (sym c.which_stands.ensures ∙ ap standing_numbers told)))
 
 pub returns-in-Err : goal.returns-in-Err
 returns-in-Err c =
     let x = c.args in
-    c.part_refusal.ensures
+    c.from-in-Err.ensures
     ∙ ap part_exported (sym (pair-refused x.first.now x.second.now _
     (sym c.which_stands.ensures ∙ ap standing_numbers c.in-Err.is)))

@@ -1,53 +1,36 @@
--- `exchange::copy_holds` meets its contract: 56's test, one field after the other. Assumes nothing.
-use borrow.Author.Tests.{eq-eqb, ne_eqb}
+-- `exchange::copy_holds` meets its contract: 56's test. Assumes nothing.
 use Rattle.schedule.specs.Exchange.{copy_rule}
-use Rattle.exchange.proofs.RecordLaws.{same_as}
+use Rattle.exchange.proofs.RecordLaws.{fields_differ, same_as}
 use Rattle.exchange.proofs.copy_holds.Goals as goal
 
-pub returns-then-series : goal.returns-then-series
+pub returns-then-ne : goal.returns-then-ne
 unfolding copy_rule
-returns-then-series c = simp (← c.series.ensures, ← c.series-2.ensures, ne_eqb _ _ c.if-series.true)
-
-pub returns-then-issue : goal.returns-then-issue
-unfolding copy_rule
-returns-then-issue c =
+returns-then-ne c =
     simp (
       ← c.series.ensures,
       ← c.series-2.ensures,
-      eq-eqb _ _ c.if-series.false,
       ← c.issue.ensures,
       ← c.issue-2.ensures,
-      ne_eqb _ _ c.if-issue.true,
-    )
-
-pub returns-then-withdrawn : goal.returns-then-withdrawn
-unfolding copy_rule
-returns-then-withdrawn c =
-    simp (
-      ← c.series.ensures,
-      ← c.series-2.ensures,
-      eq-eqb _ _ c.if-series.false,
-      ← c.issue.ensures,
-      ← c.issue-2.ensures,
-      eq-eqb _ _ c.if-issue.false,
       ← c.withdrawn.ensures,
       ← c.withdrawn-2.ensures,
-      ne_eqb _ _ c.if-withdrawn.true,
+      fields_differ,
+      ← c.ne.ensures,
+      c.if-ne.true,
     )
 
-pub returns : goal.returns
+pub returns-else-ne : goal.returns-else-ne
 unfolding copy_rule
-returns c =
+returns-else-ne c =
     simp (
       ← c.series.ensures,
       ← c.series-2.ensures,
-      eq-eqb _ _ c.if-series.false,
       ← c.issue.ensures,
       ← c.issue-2.ensures,
-      eq-eqb _ _ c.if-issue.false,
       ← c.withdrawn.ensures,
       ← c.withdrawn-2.ensures,
-      eq-eqb _ _ c.if-withdrawn.false,
+      fields_differ,
+      ← c.ne.ensures,
+      c.if-ne.false,
       c.eq.ensures,
       same_as c.args.w.now c.args.x.now,
     )

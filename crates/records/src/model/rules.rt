@@ -24,29 +24,19 @@ const NEWEST: u8 = 3;
 fn limits_hold(x: Sizes) -> bool
     ensures { result ≡ limits_hold x }
 {
-    if !form::within(1, 8, x.cores as u16) {
-        return false;
-    }
-    if !form::within(1, 8, x.threads as u16) {
-        return false;
-    }
-    if !form::within(1, 32, x.activities as u16) {
-        return false;
-    }
-    form::within(1, 4096, x.horizon)
+    form::within(1, 8, x.cores as u16)
+        && form::within(1, 8, x.threads as u16)
+        && form::within(1, 32, x.activities as u16)
+        && form::within(1, 4096, x.horizon)
 }
 
 // "51 for i outside 1..4, i times n above 8 or i times m above 32"
 fn rounds_hold(one: Sizes, rounds: u8) -> bool
     ensures { result ≡ rounds_hold one rounds }
 {
-    if !form::within(1, 4, rounds as u16) {
-        return false;
-    }
-    if 8 < unroll::times(rounds, one.threads) {
-        return false;
-    }
-    unroll::times(rounds, one.activities) <= 32
+    form::within(1, 4, rounds as u16)
+        && unroll::times(rounds, one.threads) <= 8
+        && unroll::times(rounds, one.activities) <= 32
 }
 
 // The rules that name no row.
@@ -81,55 +71,32 @@ pub(crate) fn head(s: &[u8]) -> Result<(), Refusal>
 fn thread_holds(row: ThreadRow) -> bool
     ensures { result ≡ thread_holds row }
 {
-    if row.most_period < row.least_period {
-        return false;
-    }
-    if row.most_release < row.least_release {
-        return false;
-    }
-    if row.least_period == 0 {
-        row.most_period == 0
-    } else {
-        true
-    }
+    row.least_period <= row.most_period
+        && row.least_release <= row.most_release
+        && (row.least_period != 0 || row.most_period == 0)
 }
 
 // "i above 1 and unequal period ends, or a moved release above 65535"
 fn period_holds(row: ThreadRow, rounds: u8) -> bool
     ensures { result ≡ period_holds rounds row }
 {
-    if rounds <= 1 {
-        return true;
-    }
-    if row.least_period != row.most_period {
-        return false;
-    }
-    unroll::moved(rounds - 1, row.least_period, row.most_release) <= 65535
+    rounds <= 1
+        || row.least_period == row.most_period
+            && unroll::moved(rounds - 1, row.least_period, row.most_release) <= 65535
 }
 
 // "thread ≥ n, least duration 0, or least above most"
 fn activity_holds(row: ActivityRow, threads: u8) -> bool
     ensures { result ≡ activity_holds threads row }
 {
-    let thread = row.thread;
-    if threads <= thread.0 {
-        return false;
-    }
-    if row.least_duration == 0 {
-        return false;
-    }
-    row.least_duration <= row.most_duration
+    row.thread.0 < threads && 1 <= row.least_duration && row.least_duration <= row.most_duration
 }
 
 // "whose q is m or more but not 255"
 fn loop_holds(q: u8, activities: u8) -> bool
     ensures { result ≡ loop_holds activities q }
 {
-    if q == unroll::NO_LOOP {
-        true
-    } else {
-        q < activities
-    }
+    q == unroll::NO_LOOP || q < activities
 }
 
 // "for a width of 0 or above c"
@@ -143,13 +110,11 @@ fn width_holds(width: u8, cores: u8) -> bool
 fn masks_hold(row: ActivityRow, number: u8) -> bool
     ensures { result ≡ masks_hold number row }
 {
-    if !form::none_from(row.temporal_mask, number) {
-        return false;
-    }
-    form::none_from(row.data_mask, number)
+    form::none_from(row.temporal_mask, number) && form::none_from(row.data_mask, number)
 }
 
 // How many rows a rule is tried at.
+// A match, since the definitions name the rules, and each goes over threads or over activities.
 fn rows_of(rule: RowRule, s: &[u8]) -> u8
     ensures { result ≡ (row_rule rule (page s.now)).rows }
 {
@@ -165,6 +130,7 @@ fn rows_of(rule: RowRule, s: &[u8]) -> u8
 }
 
 // Row number A of those that a rule is tried at, or its refusal.
+// A match, since the definitions name the rules, and each reads another part of the row.
 fn read_row(rule: RowRule, s: &[u8], number: u8) -> Result<Row, Refusal>
     ensures { row_read_numbers result
         ≡ row_answer (row_rule rule (page s.now)) number (row_at rule (page s.now) number) }
@@ -204,6 +170,7 @@ fn read_row(rule: RowRule, s: &[u8], number: u8) -> Result<Row, Refusal>
 
 // Whether it is known that no row can break a rule: 52 in one round, 53 "without loops", and 57 where rows have no width and
 // there is a core. A no promises nothing, and the rows are tried.
+// A match, since the definitions name the rules, and each asks something else of the page.
 fn settled(rule: RowRule, s: &[u8]) -> bool
     ensures { result ≡ true → break (row_rule rule (page s.now)) ≡ none }
 {
@@ -227,13 +194,10 @@ fn over_rows(rule: RowRule, s: &[u8]) -> Result<(), Refusal>
     if settled(rule, s) {
         return Ok(());
     }
-    for number in 0..rows_of(rule, s) {
-        let read = read_row(rule, s, number);
-        let Ok(_) = read else {
-            return read.map(|_| ());
-        };
-    }
-    Ok(())
+    rows::over(
+        rows_of(rule, s) as u16,
+        |number| read_row(rule, s, number as u8),
+    )
 }
 
 // The rules of rows in their order: "Each number is tried over all its rows before the next".

@@ -1,40 +1,40 @@
-use Prim.Native.Nat.{ℕ, ◌+◌, ◌/◌}
+use Prim.Native.Nat.{ℕ, ◌+◌, ◌-◌, ◌/◌, ◌%◌, ◌≤◌, ◌<◌}
+use native.Mathlib.Decide.{dec_lt}
 use native.Mathlib.Omega.{arith}
-use mathlib.Core.Path.{refl, ap, ◌∙◌}
-use lib.ListN.{length-set}
-use Rattle.laws.proofs.LineLengths.{length_positive, length_large}
+use mathlib.Core.Path.{◌≡◌, ap, ◌∙◌}
+use lib.ListN.{length, set, length-set}
+use Rattle.schedule.specs.Lines.{decimal, hex_digit}
+use Rattle.laws.proofs.LineLengths.{length-small, length_large, length_positive}
 use Rattle.text.proofs.AppendLaws.{decimal_next, decimal-done}
 use Rattle.text.proofs.store_decimal.Goals as goal
 
-pub overflow_sub-i : goal.overflow_sub-i
-overflow_sub-i c = omega (arith, length_positive c.args.n)
+-- a number of more than one digit, and of one
+large : (n : ℕ) → 2 ≤ length (decimal n) → 10 ≤ n
+large n h = elim (dec_lt n 10) [ yes s ↦ omega (arith, length-small n s) | no s ↦ omega arith ]
 
-pub loop-rest-init : goal.loop-rest-init
-loop-rest-init c = (omega (arith, length_positive c.args.n), refl)
+small : (n : ℕ) → length (decimal n) ≡ 1 → n < 10
+small n h =
+    elim (dec_lt n 10) [
+      | yes s ↦ s
+      | no s ↦ omega (arith, length_large n (omega arith), length_positive (n / 10))
+    ]
 
-pub overflow_sub-i-in-loop-rest : goal.overflow_sub-i-in-loop-rest
-overflow_sub-i-in-loop-rest c =
-    let l = c.loop-rest in
-    omega (arith, length_large l.rest c.loop-rest-test.true, length_positive (l.rest / 10))
-
-pub loop-rest-preserved : goal.loop-rest-preserved
-loop-rest-preserved c =
-    let x = c.args in
-    let l = c.loop-rest in (
-      simp length-set
-          (omega (arith, length_large l.rest c.loop-rest-test.true, length_positive (l.rest / 10))),
-      decimal_next l.rest x.at l.out c.hex_digit.ensures l.i l.invariant.0.0 c.loop-rest-test.true
-          ∙ l.invariant.1,
-    )
-
-pub shape_of-out : goal.shape_of-out
-shape_of-out c = simp length-set c.loop-rest.invariant.0.2
-
-pub returns : goal.returns
-returns c =
-    let x = c.args in
-    let l = c.loop-rest in
+pub loop-i-preserved : goal.loop-i-preserved
+loop-i-preserved c =
+    let at = c.args.at in
+    let l = c.loop-i in
+    let some : 1 ≤ l.i = omega arith in
+    let digits : l.i ≡ length (decimal l.rest) = l.invariant.left some in
+    let more : 1 ≤ l.i - 1 → 10 ≤ l.rest = λ h. large l.rest (omega arith) in
+    let last : l.i - 1 < 1 → l.rest < 10 = λ h. small l.rest (omega arith) in
     record {
-      moved = ap (λ (k : ℕ). x.at + k) c.decimal_length-k.ensures.0;
-      stored = decimal-done l.rest x.at l.out c.hex_digit-2.ensures c.loop-rest-test.false ∙ l.invariant.1;
+      room = (omega arith, simp length-set l.invariant.room.1);
+      left = λ h. omega (arith, length_large l.rest (more h));
+      stored = λ h. decimal_next l.rest at l.out c.hex_digit.ensures (l.i - 1) (omega arith) (more h) ∙ l.invariant.stored some;
+      whole = λ h.
+          let one : l.rest % 10 ≡ l.rest = omega (arith, last h) in
+          let place : at + (l.i - 1) ≡ at = omega arith in
+          ap (λ (j : ℕ). set l.out j c.hex_digit.result) place
+          ∙ decimal-done l.rest at l.out (c.hex_digit.ensures ∙ ap (λ (r : ℕ). hex_digit (r % 16)) one) (last h)
+          ∙ l.invariant.stored some;
     }

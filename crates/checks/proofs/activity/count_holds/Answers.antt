@@ -5,16 +5,17 @@ use Rattle.records.specs.declared.model.ActivityRow.{ActivityRow}
 use Rattle.records.specs.Rows.{activity_row_of}
 use Rattle.checks.proofs.activity.count_holds.Goals as goal
 
-pub returns-then-count-row : goal.returns-then-count-row
+pub returns-then-row-count : goal.returns-then-row-count
 unfolding activity_row_of
-returns-then-count-row c = simp (← ap (λ (y : ActivityRow). y.least_duration) c.activity_row-row.ensures, lt-leb _ _ c.if-count-row.true)
-
-pub returns : goal.returns
-unfolding activity_row_of
-returns c =
+returns-then-row-count c =
     let row = c.activity_row-row.ensures in
     simp (
       ← ap (λ (y : ActivityRow). y.least_duration) row,
-      le-leb _ _ c.if-count-row.false,
+      le-leb _ _ c.if-row-count.true,
       ← ap (λ (y : ActivityRow). y.most_duration) row,
     )
+
+pub returns-else-row-count : goal.returns-else-row-count
+unfolding activity_row_of
+returns-else-row-count c =
+    simp (← ap (λ (y : ActivityRow). y.least_duration) c.activity_row-row.ensures, lt-leb _ _ c.if-row-count.false)

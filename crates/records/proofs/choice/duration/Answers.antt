@@ -5,4 +5,4 @@ use Rattle.records.proofs.choice.duration.Goals as goal
 
 pub returns : goal.returns
 unfolding choice
-returns c = rw (← c.byte-threads.ensures, ← c.duration_at.ensures, ← c.be16.ensures)
+returns c = rw (← c.byte.ensures, ← c.duration_at.ensures, ← c.be16.ensures)

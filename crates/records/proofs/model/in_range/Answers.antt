@@ -1,18 +1,13 @@
--- `model::in_range` meets its contract: each way out has the tests that led there.
+-- `model::in_range` meets its contract: the tests are those of the definition.
 -- Assumes nothing.
+use Rattle.std.proofs.Common.{rules}
 use Rattle.records.specs.Rows.{timing_holds}
-use Rattle.records.proofs.Reading.{told_no, told-yes}
 use Rattle.records.proofs.model.in_range.Goals as goal
 
-pub returns-then-not-within : goal.returns-then-not-within
+pub returns-then-within : goal.returns-then-within
 unfolding timing_holds
-returns-then-not-within c =
-    rw (← c.thread_row-range.ensures, told_no c.within.ensures c.if-not-within.true)
+returns-then-within c = search rules
 
-pub returns : goal.returns
+pub returns-else-within : goal.returns-else-within
 unfolding timing_holds
-returns c =
-    rw (
-      ← c.thread_row-range.ensures,
-      told-yes c.within.ensures c.if-not-within.false,
-    ) c.within-2.ensures
+returns-else-within c = search rules

@@ -8,7 +8,7 @@ pub returns : goal.returns
 unfolding span_of plan
 returns c =
     rw (
-      ← c.byte-threads.ensures,
+      ← c.byte.ensures,
       ← c.activity_at-at.ensures,
       ← c.be16.ensures,
       ← c.be16-2.ensures,

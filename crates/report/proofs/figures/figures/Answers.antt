@@ -1,16 +1,18 @@
 -- `report::figures::figures` meets its contract: where nothing is owed the usage is the sum of the durations, each
 -- times its width.
 -- Assumes nothing.
-use Prim.Native.Nat.{ℕ, ◌*◌, ◌-◌}
+use Prim.Native.Nat.{ℕ, ◌*◌, ◌-◌, ◌≤◌}
 use native.Mathlib.Omega.{arith}
 use mathlib.Core.List.{List}
 use mathlib.Core.Path.{◌≡◌, ap, ap₂, ◌∙◌}
-use lib.ListN.{get_or}
+use lib.ListN.{length, get_or, take}
+use lib.Seq.{length-take-le, get_or-take}
 use Rattle.schedule.specs.Bounded.{total, greatest, least}
 use Rattle.schedule.specs.Model.{Model, Formed, model}
 use Rattle.schedule.specs.Choice.{choice}
 use Rattle.schedule.specs.Answers
 use Rattle.laws.proofs.Ranges.{chosen-duration_lt, width_lt}
+use Rattle.laws.proofs.Sums.{greatest_ext}
 use Rattle.records.specs.Rows.{sizes_of}
 use Rattle.records.specs.declared.model.Sizes.{Sizes}
 use Rattle.tables.specs.Columns.{TableOf, entry_of, column_of}
@@ -51,9 +53,9 @@ core_ticks-requires c =
       ),
     )
 
-pub latest-requires : goal.latest-requires
+pub shared_ref_as_front-latest : goal.shared_ref_as_front-latest
 unfolding sizes_of
-latest-requires c =
+shared_ref_as_front-latest c =
     omega (arith, ap (λ (y : Sizes). y.activities) c.counts-sizes.ensures, c.requires.has_ends.formed.activities.1)
 
 pub returns : goal.returns
@@ -67,7 +69,13 @@ returns c =
     let widths = c.table-widths.result in
     let used = c.core_ticks.ensures ∙ ap (λ (y : Sizes). total y.activities (λ a. get_or durations a 0 * get_or widths a 0)) e in
     let room = ap (λ (y : Sizes). y.cores * y.horizon) e in
-    let last = c.latest.ensures ∙ ap (λ (y : Sizes). greatest y.activities (λ a. get_or x.ends.now a 0)) e in
+    let n : ℕ = c.counts-sizes.result.activities in
+    let few : n ≤ length x.ends.now =
+    omega (arith, ap (λ (y : Sizes). y.activities) c.counts-sizes.ensures, formed.activities.1) in
+    let last = c.latest.ensures
+    ∙ ap (λ k. greatest k (λ a. get_or (take n x.ends.now) a 0)) (length-take-le n x.ends.now few)
+    ∙ greatest_ext n _ _ (λ a l. get_or-take n x.ends.now a 0 l)
+    ∙ ap (λ (y : Sizes). greatest y.activities (λ a. get_or x.ends.now a 0)) e in
     let first = c.least_release-first.ensures
     ∙ ap (λ (y : Sizes). least y.threads (choice x.q.now).release) e in
     let span = c.saturating_sub.ensures ∙ ap₂ ◌-◌ last first in

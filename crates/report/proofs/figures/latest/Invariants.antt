@@ -4,5 +4,5 @@ use lib.ListN.{get_or}
 use Rattle.schedule.specs.Bounded.{greatest}
 use Rattle.report.proofs.figures.latest.Given as goal
 
-abbrev pub invariant-loop-a : goal.invariant-loop-a
-invariant-loop-a l = l.latest ≡ greatest l.a (λ i. get_or l.table i 0)
+abbrev pub invariant-loop-end : goal.invariant-loop-end
+invariant-loop-end l = l.latest ≡ greatest l.end-index (λ i. get_or l.ends i 0)

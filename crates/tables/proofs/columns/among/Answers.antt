@@ -15,5 +15,5 @@ unfolding sizes_of
 returns c =
     let x = c.args in
     ap (bit_and x.mask) c.below.ensures
-    ∙ ap (λ (y : Sizes). bit_and x.mask (word_of 32 (λ b. ltb b y.activities))) c.counts-sizes.ensures
+    ∙ ap (λ (y : Sizes). bit_and x.mask (word_of 32 (λ b. ltb b y.activities))) c.counts.ensures
     ∙ among_mask (model x.s.now) x.mask

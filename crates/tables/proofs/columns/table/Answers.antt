@@ -11,4 +11,4 @@ unfolding column_of
 returns c =
     let x = c.args in
     let f = entry_of x.which x.s.now x.second.now in
-    by_first (model x.s.now) c.rows.result f c.table.result c.rows.ensures (c.table.ensures f (λ a y l p. search rules))
+    by_first (model x.s.now) c.rows.result.n f c.table.result c.rows.ensures (c.table.ensures f (λ a y l p. search rules))

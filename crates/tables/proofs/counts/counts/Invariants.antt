@@ -10,5 +10,5 @@ use Rattle.tables.proofs.counts.counts.Given as goal
 
 abbrev pub invariant-loop-t : goal.invariant-loop-t
 invariant-loop-t l =
-    (l.horizon ≡ (model l.s).horizon) × (l.horizon < 65536) × (length l.counted ≡ 32)
+    (l.t-end ≡ (model l.s).horizon) × (l.t-end < 65536) × (length l.counted ≡ 32)
     × ((i : ℕ) → i < 32 → get_or l.counted i 0 ≡ count l.t (λ v. bit (word_in l.grid v) i))

@@ -26,14 +26,14 @@ unfolding widths_of column_of
 returns c =
     let s = c.args.s.now in
     let m = model s in
-    let n = c.rows-n in
+    let places = c.rows-places in
     let column = c.table-column in
     let narrow = width_lt s (λ i _. (c.type_inv.s i).fits) in
     let widest = c.greatest.ensures (λ a. get_or column.result a 0) (λ a y l p. search rules) in
     let depth : c.digits-depth.result ≡ depth_of m =
-    depth_is m narrow n.result c.greatest.result _ column.result n.ensures column.ensures widest c.digits-depth.ensures in
-    let plane : (j y : ℕ) → y ≡ word_of n.result (λ a. bit (get_or column.result a 0) j) → y ≡ plane_of m j =
-    λ j y e. e ∙ plane_is m narrow n.result j column.result n.ensures column.ensures in
+    depth_is m narrow places.result.n c.greatest.result _ column.result places.ensures column.ensures widest c.digits-depth.ensures in
+    let plane : (j y : ℕ) → y ≡ word_of places.result.n (λ a. bit (get_or column.result a 0) j) → y ≡ plane_of m j =
+    λ j y e. e ∙ plane_is m narrow places.result.n j column.result places.ensures column.ensures in
     let planes =
     planes_whole m narrow c.digits-depth.result c.table.result depth
     (c.table.ensures (plane_of m) (λ j y l p. plane j y (search rules))) in

@@ -19,13 +19,13 @@ unfolding ranking_of column_of
 returns c =
     let x = c.args in
     let m = model x.s.now in
-    let n : ℕ = c.rows-n.result in
+    let n : ℕ = c.rows-places.result.n in
     let priorities : List ℕ = c.table-priorities.result in
     let words : ℕ → ℕ = λ a. word_of n (λ b. ranks x.order (λ i. get_or priorities i 0) b a) in
     let priority : (a : ℕ) → a < m.activities → a < 32 → get_or priorities a 0 ≡ priority_of m a =
     λ a k here. ap (λ (y : List ℕ). get_or y a 0) c.table-priorities.ensures ∙ by_at m (priority_of m) a k here in
-    by_first m n words c.table.result c.rows-n.ensures (c.table.ensures words (λ a y l p. search rules))
+    by_first m n words c.table.result c.rows-places.ensures (c.table.ensures words (λ a y l p. search rules))
     ∙ by_ext m _ _ (λ a k here.
-    among_first m _ _ _ c.rows-n.ensures (λ b lb.
+    among_first m _ _ _ c.rows-places.ensures (λ b lb.
     ranks-same x.order _ (priority_of m) b a
-    (priority b (omega (arith, c.rows-n.ensures)) (omega (arith, c.rows-n.ensures))) (priority a k here)))
+    (priority b (omega (arith, c.rows-places.ensures)) (omega (arith, c.rows-places.ensures))) (priority a k here)))

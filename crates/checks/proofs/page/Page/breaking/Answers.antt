@@ -1,6 +1,5 @@
 -- `checks::page::Page::breaking` meets its contract, rule by rule.
 -- Assumes nothing.
-use native.Mathlib.Omega.{arith}
 use mathlib.Core.Path.{refl, ap, ◌∙◌}
 use Rattle.schedule.specs.Model.{model}
 use Rattle.schedule.specs.Plan.{plan}
@@ -11,16 +10,7 @@ use Rattle.records.specs.declared.plan.Span.{Span}
 use Rattle.records.specs.Rows.{activity_row_of, span_of}
 use Rattle.laws.proofs.Steps.{zeros_at}
 use Rattle.checks.proofs.ActivityLaws.{flagged, count-test, eligible-test, temporal_mask, data_mask}
-use Rattle.checks.proofs.SizesRead.{read_activities}
 use Rattle.checks.proofs.page.Page.breaking.Goals as goal
-
-pub early_mask-requires : goal.early_mask-requires
-early_mask-requires c =
-    omega (arith, read_activities _ c.counts-sizes.ensures, c.args.self.now.counted.tabulated.few)
-
-pub early_mask-requires-in-Data : goal.early_mask-requires-in-Data
-early_mask-requires-in-Data c =
-    omega (arith, read_activities _ c.counts-sizes.ensures, c.args.self.now.counted.tabulated.few)
 
 pub returns-in-Window : goal.returns-in-Window
 unfolding rule21
@@ -58,7 +48,7 @@ returns-in-Temporal c =
     ∙ temporal_mask (model x.self.now.s.now) (plan x.self.now.r.now) _ _ x.a.0 _ _ _
     (ap (λ (y : ActivityRow). y.temporal_mask) c.activity_row.ensures)
     (ap (λ (y : Span). y.start) c.activity_row-span.ensures)
-    (read_activities _ c.counts-sizes.ensures) tables.end_ticks tables.delay_ticks)
+    refl tables.end_ticks tables.delay_ticks)
 
 pub returns-in-Data : goal.returns-in-Data
 unfolding activity_row_of span_of
@@ -70,7 +60,7 @@ returns-in-Data c =
     ∙ data_mask (model x.self.now.s.now) (plan x.self.now.r.now) _ _ x.a.0 _ _ _
     (ap (λ (y : ActivityRow). y.data_mask) c.activity_row-in-Data.ensures)
     (ap (λ (y : Span). y.start) c.activity_row-span.ensures)
-    (read_activities _ c.counts-sizes.ensures) tables.end_ticks (zeros_at 32))
+    refl tables.end_ticks (zeros_at 32))
 
 pub returns-in-Eligible : goal.returns-in-Eligible
 unfolding rule27 span_of

@@ -1,15 +1,14 @@
-use native.Mathlib.Omega.{arith}
-use mathlib.Core.Path.{sym}
-use Rattle.laws.proofs.WordLaws.{mark_next, word-start}
+-- `checks::windows::Windows::opened` meets its contract: the word of the windows that are open. Assumes nothing.
+use mathlib.Core.Bool.{◌&&◌}
+use lib.Dec.{leb, ltb}
+use lib.ListN.{get_or}
+use Rattle.std.proofs.Common.{rules}
 use Rattle.checks.specs.Windows.{open_of}
 use Rattle.checks.proofs.windows.Windows.opened.Goals as goal
 
-pub loop-a-init : goal.loop-a-init
+pub returns : goal.returns
 unfolding open_of
-loop-a-init c = sym (word-start _)
-
-pub loop-a-preserved : goal.loop-a-preserved
-unfolding open_of
-loop-a-preserved c =
-    let l = c.loop-a in
-    rw (c.mark-mask.ensures, l.invariant) (mark_next l.a _ c.holds-yes.result (omega arith) c.holds-yes.ensures)
+returns c =
+    let x = c.args in
+    c.word.ensures (λ a. leb (get_or x.self.now.froms.now a 0) x.t && ltb x.t (get_or x.self.now.ends.now a 0))
+    (λ a y l p. search rules)

@@ -10,7 +10,7 @@ use Rattle.schedule.specs.Plan.{plan, active}
 use Rattle.laws.proofs.PlanBytes.{word_read}
 use Rattle.ticks.proofs.KeptLaws.{stands_unknown, stands_on}
 use Rattle.checks.specs.Windows.{without}
-use Rattle.checks.proofs.WindowLaws.{stray_start, stray_next}
+use Rattle.checks.proofs.WindowLaws.{stray_start, stray_next, without_and}
 use Rattle.checks.proofs.windows.Windows.outside.Goals as goal
 
 pub loop-t-init : goal.loop-t-init
@@ -24,7 +24,7 @@ loop-t-preserved c =
     let word = word_read x.r.now _ l.t _ c.words-grid.ensures.0 c.word.ensures in (
       stands_on _ _ _ at.ensures.1,
       λ a h. ap (λ (w : ℕ). bit (bit_or l.strays w) a)
-          (c.without-strays.ensures ∙ ap (λ (w : ℕ). without w at.result.word) word)
+          (without_and c.word.result at.result.word (omega arith) (omega arith) ∙ ap (λ (w : ℕ). without w at.result.word) word)
           ∙ stray_next x.self.now.n x.self.now.froms.now x.self.now.ends.now (λ v. (plan x.r.now).word v) l.t _ _
           x.self.now.few at.ensures.0 a h (l.invariant.1 a h),
     )

@@ -1,30 +1,20 @@
 -- `machine::inputs::Tables::ready_at` meets its contract: the four tests in turn.
 -- Assumes nothing.
-use borrow.Author.Tests.{le-leb, lt-leb}
+use Rattle.std.proofs.Common.{rules}
 use Rattle.machine.specs.Masks.{ready_from}
-use Rattle.machine.proofs.MaskLaws.{pos-ltb}
 use Rattle.machine.proofs.inputs.Tables.ready_at.Goals as goal
-
-pub returns-then-owed-a-eq0 : goal.returns-then-owed-a-eq0
-unfolding ready_from
-returns-then-owed-a-eq0 c = rw c.if-owed-a-eq0.true
+use Rattle.machine.proofs.inputs.Tables.ready_at.Goals.{then-owed-a-gt0, else-owed-a-gt0, then-self-a, else-self-a}
 
 pub returns-then-covered : goal.returns-then-covered
 unfolding ready_from
-returns-then-covered c =
-    simp (
-      pos-ltb _ c.if-owed-a-eq0.false,
-      le-leb _ _ c.if-self-a.true,
-      ← c.covered.ensures,
-      c.if-covered.true,
-      ← c.covered-then-covered.ensures,
-    )
+returns-then-covered c = elim c.if-owed-a-gt0.branch [
+  | then-owed-a-gt0 w ↦ elim c.if-self-a.branch [ then-self-a v ↦ search rules | else-self-a v ↦ search rules ]
+  | else-owed-a-gt0 w ↦ elim c.if-self-a.branch [ then-self-a v ↦ search rules | else-self-a v ↦ search rules ]
+]
 
 pub returns-else-covered : goal.returns-else-covered
 unfolding ready_from
-returns-else-covered c =
-    simp (pos-ltb _ c.if-owed-a-eq0.false, le-leb _ _ c.if-self-a.true, ← c.covered.ensures, c.if-covered.false)
-
-pub returns-else-self-a : goal.returns-else-self-a
-unfolding ready_from
-returns-else-self-a c = simp (pos-ltb _ c.if-owed-a-eq0.false, lt-leb _ _ c.if-self-a.false)
+returns-else-covered c = elim c.if-owed-a-gt0.branch [
+  | then-owed-a-gt0 w ↦ elim c.if-self-a.branch [ then-self-a v ↦ search rules | else-self-a v ↦ search rules ]
+  | else-owed-a-gt0 w ↦ elim c.if-self-a.branch [ then-self-a v ↦ search rules | else-self-a v ↦ search rules ]
+]

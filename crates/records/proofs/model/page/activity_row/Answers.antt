@@ -13,7 +13,7 @@ unfolding activity_row_of page
 returns c =
     rw (
       ← c.activity_place-at.ensures.value,
-      ← c.byte-owner.ensures,
+      ← c.byte.ensures,
       ← c.be16.ensures,
       ← c.be16-2.ensures,
       ← c.be16-3.ensures,

@@ -1,30 +1,17 @@
 use Rattle.std.proofs.Common.{rules}
-use native.Mathlib.Omega.{arith}
 use mathlib.Core.Path.{sym}
-use Rattle.schedule.specs.Model.{page}
-use Rattle.laws.proofs.RowLaws.{clear-start}
-use Rattle.records.proofs.Reading.{row-refused, row-taken, rows_end}
+use Rattle.schedule.specs.Model.{page, row_rule}
+use Rattle.records.specs.RowRules.{row_at}
+use Rattle.records.proofs.Reading.{rows_break}
 use Rattle.records.proofs.RowOrder.{row-columns}
 use Rattle.records.proofs.model.rules.over_rows.Goals as goal
 
 pub returns-then-settled : goal.returns-then-settled
 returns-then-settled c = sym (c.settled.ensures c.if-settled.true)
 
-pub loop-number-init : goal.loop-number-init
-loop-number-init c = clear-start _
-
-pub returns-in_default : goal.returns-in_default
-returns-in_default c =
-    let x = c.args in
-    row-refused _ _ _ _ (row-columns x.rule (page x.s.now)) c.loop-number.invariant
-    c.read_row-read.ensures _ _ (omega (arith, c.rows_of-number-end.ensures))
-    c.in_default.is (search rules)
-
-pub loop-number-preserved : goal.loop-number-preserved
-loop-number-preserved c =
-    let x = c.args in
-    row-taken _ _ _ _ (row-columns x.rule (page x.s.now)) c.loop-number.invariant
-    c.read_row-read.ensures _ c.in-Ok.is
-
 pub returns : goal.returns
-returns c = sym (rows_end _ _ (omega (arith, c.rows_of-number-end.ensures)) c.loop-number.invariant)
+returns c =
+    let x = c.args in
+    let p = page x.s.now in
+    rows_break (row_rule x.rule p) c.rows_of.result (row_at x.rule p) _ c.rows_of.ensures (row-columns x.rule p)
+    (c.over.ensures _ (λ a y l q. search rules))

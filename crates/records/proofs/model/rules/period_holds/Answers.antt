@@ -1,17 +1,17 @@
--- `model::rules::period_holds` meets its contract: each way out has the tests that led there.
+-- `model::rules::period_holds` meets its contract: the tests are those of the definition.
 -- Assumes nothing.
-use borrow.Author.Tests.{lt-ltb, le-ltb, eq-eqb, ne_eqb}
+use Rattle.std.proofs.Common.{rules}
 use Rattle.records.specs.Rows.{period_holds}
 use Rattle.records.proofs.model.rules.period_holds.Goals as goal
 
 pub returns-then-rounds-le1 : goal.returns-then-rounds-le1
 unfolding period_holds
-returns-then-rounds-le1 c = rw (le-ltb 1 _ c.if-rounds-le1.true)
+returns-then-rounds-le1 c = search rules
 
 pub returns-then-row : goal.returns-then-row
 unfolding period_holds
-returns-then-row c = rw (lt-ltb 1 _ c.if-rounds-le1.false, ne_eqb _ _ c.if-row.true)
+returns-then-row c = search rules
 
-pub returns : goal.returns
+pub returns-else-row : goal.returns-else-row
 unfolding period_holds
-returns c = rw (lt-ltb 1 _ c.if-rounds-le1.false, eq-eqb _ _ c.if-row.false, ← c.moved.ensures)
+returns-else-row c = search rules

@@ -1,31 +1,17 @@
--- `model::rules::thread_holds` meets its contract: each way out has the tests that led there.
+-- `model::rules::thread_holds` meets its contract: the tests are those of the definition.
 -- Assumes nothing.
-use borrow.Author.Tests.{le-leb, lt-leb, eq-eqb, ne_eqb}
+use Rattle.std.proofs.Common.{rules}
 use Rattle.records.specs.Rows.{thread_holds}
 use Rattle.records.proofs.model.rules.thread_holds.Goals as goal
 
-pub returns-then-row : goal.returns-then-row
+pub returns-then-row-ne0 : goal.returns-then-row-ne0
 unfolding thread_holds
-returns-then-row c = simp (lt-leb _ _ c.if-row.true)
+returns-then-row-ne0 c = search rules
 
-pub returns-then-row-2 : goal.returns-then-row-2
+pub returns-else-row-ne0 : goal.returns-else-row-ne0
 unfolding thread_holds
-returns-then-row-2 c = simp (le-leb _ _ c.if-row.false, lt-leb _ _ c.if-row-2.true)
+returns-else-row-ne0 c = search rules
 
-pub returns-then-row-eq0 : goal.returns-then-row-eq0
+pub returns-else-row-2 : goal.returns-else-row-2
 unfolding thread_holds
-returns-then-row-eq0 c =
-    rw (
-      le-leb _ _ c.if-row.false,
-      le-leb _ _ c.if-row-2.false,
-      eq-eqb _ _ c.if-row-eq0.true,
-    )
-
-pub returns-else-row-eq0 : goal.returns-else-row-eq0
-unfolding thread_holds
-returns-else-row-eq0 c =
-    simp (
-      le-leb _ _ c.if-row.false,
-      le-leb _ _ c.if-row-2.false,
-      ne_eqb _ _ c.if-row-eq0.false,
-    )
+returns-else-row-2 c = search rules

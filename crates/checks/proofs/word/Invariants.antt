@@ -1,0 +1,11 @@
+-- `checks::word` meets its contract: the word holds those that pass among the numbers passed.
+-- Assumes nothing.
+use Prim.Native.Nat.{ℕ, ◌<◌}
+use mathlib.Core.Bool.{Bool}
+use mathlib.Core.Path.{◌≡◌}
+use Rattle.schedule.specs.Bounded.{word_of}
+use Rattle.checks.proofs.word.Given as goal
+
+abbrev pub invariant-loop-a : goal.invariant-loop-a
+invariant-loop-a g l =
+    (p : ℕ → Bool) → ((a : ℕ) (y : Bool) → a < l.n → goal.F-post g l.test a y → y ≡ p a) → l.word ≡ word_of l.a p

@@ -1,9 +1,0 @@
--- `text::run_said` meets its contract: the figures, or the refusal.
--- Assumes nothing.
-use Rattle.text.proofs.run_said.Goals as goal
-
-pub returns-in-Ok : goal.returns-in-Ok
-returns-in-Ok c = simp c.in-Ok.is
-
-pub returns-in-Err : goal.returns-in-Err
-returns-in-Err c = simp (c.in-Err.is, c.refusal_said.ensures)
