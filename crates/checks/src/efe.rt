@@ -72,7 +72,8 @@ impl<'a> Predecessors<'a> {
         table
     }
 
-    // The ticks from which the activities can wait: from efe on, and after their predecessors' ends.
+    // The ticks from which the activities can wait: from efe on, and after their predecessors' ends. A table made by a loop of its
+    // own: the tables' function for that is private to their crate.
     pub(crate) fn froms(
         &self,
         finishes: &ByActivity,

@@ -50,7 +50,8 @@ fn first_place(mask: u32) -> Option<u32>
 }
 
 // The word of the first n numbers that pass a test. The crate of the tables has such a function too: its closure needs a
-// `requires`, and no public call has one.
+// `requires`, no public call has one, and a trait with a law in its place would take an impl for each test. That n is at most 32
+// is asked here and nowhere else in this crate.
 fn word<F: Fn(usize) -> bool>(n: usize, test: F) -> u32
     requires few { n ≤ 32 }
     requires callable { (a : ℕ) → a < n → F.pre test a }

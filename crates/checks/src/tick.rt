@@ -28,7 +28,7 @@ fn outranked_by(rule: TickRule, s: &[u8]) -> ByActivity
     }
 }
 
-// The activities that stand in the mask of some activity of the word.
+// The activities that stand in the mask of some activity of the word. A walk over set bits: no index is counted.
 fn outranking(word: u32, masks: &ByActivity) -> u32
     ensures { result ≡ outranking_of masks.now word }
 {
@@ -71,7 +71,7 @@ impl<'a> Trial<'a> {
     }
 
     // Those of the waiting that count: "a waiting activity counts only if its width is at most c less the widths of active
-    // activities ranked before it" (U7 of 02).
+    // activities ranked before it" (U7 of 02). A walk over set bits too.
     fn contending(&self, waiting: u32, word: u32) -> u32
         ensures { result ≡ contending_of self.now.widths self.now.befores.now word self.now.cores waiting }
     {

@@ -106,7 +106,7 @@ fn apply(s: &[u8], r: &mut [u8], e: Edit) -> Edited
     Ok(())
 }
 
-// ---- the calls without a state, each of which is one call of one function
+// ---- the calls without a state: two public names, as for C, and each is one call of one function
 
 // Marks an activity at a tick.
 pub fn mark(model: &[u8], plan: &mut [u8], activity: u32, tick: u32) -> Edited
@@ -209,7 +209,7 @@ fn kept(said: Edited) -> Kept
     said.map_err(Unkept::from)
 }
 
-// ---- the calls with a state, of which the direct edits are one call of one function each
+// ---- the calls with a state, of which the direct edits are two public names for one function
 
 // Asks for a mark or a clear: the plain verdict that the plan would have. Whatever was asked before is asked no more.
 pub fn ask(state: Editing, model: &[u8], plan: &[u8], e: Edit) -> Step<Told>

@@ -50,7 +50,8 @@ fn model_holds(w: &[u8]) -> bool
     model::read(&w[WRAPPER..]).is_ok()
 }
 
-// 54 "a wrapper whose length .., version or flag is wrong or whose model is refused"; its length is the bytes given.
+// 54 "a wrapper whose length .., version or flag is wrong or whose model is refused"; its length is the bytes given. Test by test,
+// since the model may be read only where there are 12 bytes.
 fn wrapper_holds(w: &[u8]) -> bool
     ensures { result ≡ (wrapper_rule w.now).test 0 0 }
 {

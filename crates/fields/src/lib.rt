@@ -69,7 +69,7 @@ fn store(out: &mut [u8], at: usize, bytes: &[u8])
     }
 }
 
-// Writes one byte at a position.
+// Writes one byte at a position. Three public names for one function, by the length of the field.
 pub fn put8(out: &mut [u8], at: usize, v: u8)
     ensures { out.new ≡ put at (bytes 1 v) out.old }
 {

@@ -10,7 +10,7 @@ use tables::ByActivity;
 use ticks::{Kept, sooner};
 
 impl State {
-    // The tick before which all activities of a word still owe something, or `change` if that is sooner.
+    // The tick before which all activities of a word still owe something, or `change` if that is sooner. A walk over set bits.
     fn next_end(&self, word: u32, t: u32, change: u32) -> u32
         ensures { (result ≤ change) × Busy word self.now.owed t result }
     {

@@ -31,7 +31,8 @@ fn covered(x: u32, y: u32) -> bool
 }
 
 impl Tables {
-    // The word of the activities that pass a test.
+    // The word of the activities that pass a test. The tables and the checks have such a function too: its closure needs a
+    // `requires`, no public call has one, and a trait with a law in its place would take an impl for each test.
     fn word<F: Fn(usize) -> bool>(&self, test: F) -> u32
         requires { (a : ℕ) → a < self.now.activities → F.pre test a }
         ensures { (p : ℕ → Bool) → ((a : ℕ) (y : Bool) → a < self.now.activities → F.post test a y → y ≡ p a)
@@ -157,7 +158,8 @@ fn end_after(owes: u32, end: u32, t: u16) -> u32
 }
 
 impl State {
-    // "Each owes one less, and one that now owes nothing ends at t + 1": the tables after a tick with this word.
+    // "Each owes one less, and one that now owes nothing ends at t + 1": the tables after a tick with this word. A walk over set
+    // bits: no index is counted.
     pub(crate) fn step(&mut self, word: u32, t: u16)
         ensures { Stepped 32 word t self.old.owed self.old.ends self.new.owed self.new.ends }
     {

@@ -13,7 +13,7 @@ use schedule::{
     TickRule, WrapRefusal,
 };
 
-// 5 to 7, 52, 53 and 57.
+// 5 to 7, 52, 53 and 57. Here and below a match on a rule gives its number, which is data.
 fn row_number(rule: RowRule) -> u32
     ensures { result ≡ form_number (FormRefusal.ModelRow rule) }
 {
@@ -119,7 +119,7 @@ pub fn refusal_numbers(x: Refusal) -> Numbered
     }
 }
 
-// 54 to 56.
+// 54 to 56. A function and no From: both types are other crates'.
 pub fn wrap_number(why: WrapRefusal) -> u32
     ensures { result ≡ wrap_number why }
 {

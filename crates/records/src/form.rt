@@ -11,7 +11,8 @@ ghost use Rattle.records.specs.Rows.{counts_hold, none_from};
 use crate::model;
 use schedule::{FormRefusal, Place, Refusal};
 
-// "A refusal answers its number, A and B", B not named.
+// "A refusal answers its number, A and B", B not named. The machine has such a function for another case of the enum, whose own
+// crate has no calls.
 pub(crate) fn refusal(why: FormRefusal, a: u32) -> Refusal
     ensures { refusal_numbers result ≡ refusal_in (form_number why) a }
 {

@@ -18,7 +18,7 @@ fn figure(release: u32, period: u32, end: u32) -> i32
 }
 
 // A row for each of n activities, from tables of what their threads chose and of their ends. Three tables and no rows: two are
-// filled from columns of the records (`tables::columns::table` is public), and the machine hands the third out.
+// filled from columns of the records (`tables::columns::table` is public), and the machine hands the third out; n bounds all three.
 fn fill(n: usize, releases: &ByActivity, periods: &ByActivity, ends: &ByActivity, list: &mut [i32])
     requires { (n ≤ 32) × (n ≤ length list.old) × Small n releases.now periods.now ends.now }
     ensures { list.new

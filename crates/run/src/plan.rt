@@ -77,7 +77,8 @@ fn activity_row(a: usize, starts: &ByActivity, ends: &ByActivity) -> Span
     }
 }
 
-// "m rows of start, end (2 each)": the machine's, behind the rows of n threads.
+// "m rows of start, end (2 each)": the machine's, behind the rows of n threads. The starts are counted here and the ends are the
+// machine's, so they are two tables; m bounds both.
 fn write_activities(n: u8, m: u8, starts: &ByActivity, ends: &ByActivity, out: &mut [u8])
     requires { (m ≤ 32) × (plan_activity_row n m ≤ length out.old)
         × ((a : ℕ) → a < m → (get_or starts.now a 0 < 65536) × (get_or ends.now a 0 < 65536)) }
@@ -91,7 +92,7 @@ fn write_activities(n: u8, m: u8, starts: &ByActivity, ends: &ByActivity, out: &
     }
 }
 
-// The activities of a word start at tick t.
+// The activities of a word start at tick t. A walk over set bits: no index is counted.
 fn enter(word: u32, t: u32, starts: &mut ByActivity)
     ensures { Entered word t starts.old starts.new }
 {

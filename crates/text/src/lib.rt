@@ -99,7 +99,8 @@ fn ticks(answer: RunVerdict, plan: &[u8]) -> u32
 // A text is written whole or not at all, so its length is measured before a byte is written: each text has a length here and a
 // writing below.
 
-// How many decimal digits a number has. The loop goes on while digits are left, so it is no range.
+// How many decimal digits a number has. The loop goes on while digits are left, so it is no range; the library's logarithm has
+// none of 0, and would be no plainer.
 fn decimal_length(n: u32) -> usize
     ensures { (result ≡ length (decimal n)) × (result ≤ 10) }
 {
@@ -139,8 +140,10 @@ fn ticks_length(h: u32) -> usize
 }
 
 // ---- storing at a position; the answer is the position behind what was stored
+//
+// One function makes every printed digit, as the proofreaders ask (`numbers::hex_digit`), so no `write!` makes them.
 
-// A number in decimal, from the last digit back to the first.
+// A number in decimal, from the last digit back to the first. So it is no method of the writer, which writes front to back.
 fn store_decimal(out: &mut [u8], at: usize, n: u32) -> usize
     requires { at + length (decimal n) ≤ length out.old }
     ensures { Appended at (decimal n) out.old result out.new }
@@ -162,7 +165,8 @@ fn digit_from(word: u32, bit: u32) -> u8
     hex_digit(((word >> bit) & 15) as u8)
 }
 
-// "the word as 8 lowercase hexadecimal digits", from that of its highest 4 bits on.
+// "the word as 8 lowercase hexadecimal digits", from that of its highest 4 bits on. As a method of the writer it would be no
+// plainer: a slice of one byte would be copied for each digit.
 fn store_hex(out: &mut [u8], at: usize, word: u32) -> usize
     requires { at + 8 ≤ length out.old }
     ensures { Appended at (hex 8 word) out.old result out.new }

@@ -1,5 +1,5 @@
 // The stored cases of edits through a state: marks, clears, asks and keeps.
-use crate::{next_number, next_record, print_bytes, print_done, print_numbers, print_refused};
+use crate::{next_number, next_record, print_done, print_list, print_numbers, print_refused};
 use edit_rules::{Edit, Edited, Editing, Step, Told};
 use schedule::{Figures, Verdict};
 use std::io;
@@ -129,7 +129,7 @@ fn next_steps<R: Read, W: Write>(
     for _ in 0..count {
         state = next_step(cases, out, state, model, plan)?;
     }
-    print_bytes(out, "plan", plan)
+    print_list(out, "plan", plan)
 }
 
 // Reads the next case of edits through a state and prints it.

@@ -28,6 +28,7 @@ use edit_rules::Edited;
 use keeps::Call;
 use numbers::{refusal_numbers, wrap_number};
 use schedule::{Chosen, Numbered, Part, Refusal, Side, Standing, WrapRefused};
+use std::fmt::Display;
 use std::io::{BufWriter, Read, Write};
 use std::{fs, io};
 
@@ -82,11 +83,11 @@ fn next_check<R: Read, W: Write>(cases: &mut R, out: &mut W) -> io::Result<()> {
 
 // What is printed is of other crates, whose types can have no Display here: so there is a function for each.
 
-// Prints bytes behind their name.
-fn print_bytes<W: Write>(out: &mut W, name: &str, bytes: &[u8]) -> io::Result<()> {
+// Prints the items of a list behind its name.
+fn print_list<W: Write, T: Display>(out: &mut W, name: &str, items: &[T]) -> io::Result<()> {
     write!(out, "{name}")?;
-    for byte in bytes {
-        write!(out, " {byte}")?;
+    for item in items {
+        write!(out, " {item}")?;
     }
     writeln!(out)
 }
@@ -102,7 +103,7 @@ fn print_run<W: Write>(
     let mut lines = [0u8; 60000];
     let n = text::run_lines(&mut lines, answer, plan);
     out.write_all(&lines[..n])?;
-    print_bytes(out, "buffer", plan)
+    print_list(out, "buffer", plan)
 }
 
 // Reads the next case of the run and prints its lines and its buffer.
@@ -205,8 +206,8 @@ fn next_held<R: Read, W: Write>(cases: &mut R, out: &mut W) -> io::Result<()> {
 
 // Prints the two records of an input.
 fn print_split<W: Write>(out: &mut W, input: &[u8]) -> io::Result<()> {
-    print_bytes(out, "first", streams::first_record(input))?;
-    print_bytes(out, "second", streams::second_record(input))
+    print_list(out, "first", streams::first_record(input))?;
+    print_list(out, "second", streams::second_record(input))
 }
 
 // Reads the next case of the splitter and prints its two records.
@@ -225,15 +226,6 @@ fn rows_before() -> [i32; 128] {
     rows
 }
 
-// Prints the rows of a list behind their name.
-fn print_rows<W: Write>(out: &mut W, rows: &[i32]) -> io::Result<()> {
-    write!(out, "rows")?;
-    for row in rows {
-        write!(out, " {row}")?;
-    }
-    writeln!(out)
-}
-
 // Prints the lines of a model and a choice, and the list that the report leaves. The lines take at most 366 bytes.
 fn print_report<W: Write>(
     out: &mut W,
@@ -246,7 +238,7 @@ fn print_report<W: Write>(
     let mut lines = [0u8; 512];
     let n = text::late_lines(&mut lines, answer, sizes.activities, rows);
     out.write_all(&lines[..n])?;
-    print_rows(out, rows)
+    print_list(out, "rows", rows)
 }
 
 // Reads the next case of the report and prints its lines and its list; at most 128 rows are lent.
@@ -294,7 +286,7 @@ fn next_pair<R: Read, W: Write>(cases: &mut R, out: &mut W) -> io::Result<()> {
     let first = next_record(cases, &mut first);
     let second = next_record(cases, &mut second);
     print_standing(out, exchange::which_stands(first, second))?;
-    print_bytes(out, "part", exchange::stands(first, second))
+    print_list(out, "part", exchange::stands(first, second))
 }
 
 // Reads the next file of wrapped records and prints which one is chosen and what is handed back.
@@ -302,7 +294,7 @@ fn next_file<R: Read, W: Write>(cases: &mut R, out: &mut W) -> io::Result<()> {
     let mut file = [0u8; 1024];
     let file = next_record(cases, &mut file);
     print_chosen(out, exchange::choose(file))?;
-    print_bytes(out, "part", exchange::chosen(file))
+    print_list(out, "part", exchange::chosen(file))
 }
 
 // Prints what a mark, a clear or a keep answers: done, or the numbers of its refusal.
@@ -337,7 +329,7 @@ fn next_calls<R: Read, W: Write>(
         let answer = next_call(cases, model, plan);
         print_done(out, answer.map_err(edits::reason_numbers))?;
     }
-    print_bytes(out, "plan", plan)
+    print_list(out, "plan", plan)
 }
 
 // Reads the next case of edits and prints it.
