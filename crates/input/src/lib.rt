@@ -2,8 +2,9 @@
 // no read promises of the buffer that it is given. So a read goes by way of an array of its own.
 #![tactic(auto)]
 
-ghost use Rattle.std.specs.Prelude.{◌≡◌, ◌+◌, ◌-◌, ◌<◌, ◌≤◌, length, take, drop, IfOk, OnErr};
-ghost use Rattle.std.specs.Io.KnownBytes.{Consumes, IsAtEnd, Keeps};
+ghost use Rattle.std.specs.Prelude.{◌≡◌, ◌+◌, ◌-◌, ◌<◌, ◌≤◌, length, take, drop, None, Some, IfOk, IfErr, OnErr};
+ghost use Rattle.std.specs.Io.{ReadsAtMost};
+ghost use Rattle.std.specs.Io.KnownBytes.{Consumes, IsAtEnd, Keeps, ReadConsumes};
 ghost use Rattle.input.specs.Filled.{came, FilledFrom};
 ghost use Rattle.input.specs.Known.{AllWhereSame, AllWhereShort};
 
@@ -77,4 +78,48 @@ pub fn fill<R: Read>(reader: &mut R, buf: &mut [u8]) -> Result<usize, FillError>
         done = now;
     }
     Ok(done)
+}
+
+// A reader that keeps the error of the last read that failed. An answer of `fill` has an error in it, and no clause says that it is
+// the reader's; of this reader one says it, for a caller who has to know.
+#[derive(Drop)]
+pub struct Kept<R> {
+    reader: R,
+    error: Option<io::Error>,
+}
+
+impl<R> Kept<R> {
+    // The reader, and no error yet.
+    pub fn new(reader: R) -> Kept<R>
+        ensures reader { result.reader ≡ reader }
+        ensures error { result.error ≡ None }
+    {
+        Kept {
+            reader,
+            error: None,
+        }
+    }
+
+    // The error of the last read that failed, or none.
+    pub fn error(&self) -> Option<io::Error>
+        ensures { result ≡ self.now.error }
+    {
+        self.error
+    }
+}
+
+impl<R: Read> Read for Kept<R> {
+    ghost remaining = { λ kept. R.remaining kept.reader };
+
+    fn read(&mut self, buf: &mut [u8]) -> io::Result<usize>
+        ensures bound { ReadsAtMost result buf.new }
+        ensures bytes { ReadConsumes (R.remaining self.old.reader) (R.remaining self.new.reader) result buf.new }
+        ensures error { IfErr result (λ e. self.new.error ≡ Some e) }
+    {
+        let read = self.reader.read(buf);
+        if let Err(e) = &read {
+            self.error = Some(*e);
+        }
+        read
+    }
 }
