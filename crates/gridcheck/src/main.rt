@@ -7,6 +7,7 @@ ghost use Rattle.std.proofs.Common.{rules};
 ghost use Rattle.schedule.specs.Streams.{input_limit};
 ghost use Rattle.schedule.specs.Lines.{gridcheck};
 
+use input::Kept;
 use programs::{Front, LIMIT, Program};
 use std::io;
 
@@ -16,6 +17,8 @@ const ROOM: usize = 128;
 struct Gridcheck;
 
 impl Program<LIMIT, ROOM> for Gridcheck {
+    ghost takes = { input_limit };
+
     ghost printed = { gridcheck };
 
     // The two lines for what was read. The array that is read into has the limit's length.
@@ -33,6 +36,8 @@ impl Program<LIMIT, ROOM> for Gridcheck {
         Front::new(bytes, length)
     }
 
+    ghost limit = { Prim.search rules };
+
     ghost room = { Prim.search rules };
 }
 
@@ -40,8 +45,10 @@ impl Program<LIMIT, ROOM> for Gridcheck {
 // refused, and each public function has such an edit.
 // Where a read fails nothing is printed on standard output. What failed, and why, goes to standard error, and the status is 0.
 fn main(rt: HostRuntime) {
-    let done = programs::run::<Gridcheck, _, _, LIMIT, ROOM>(&mut rt.stdin(), &mut io::writer(&rt));
-    if let Err(e) = done {
+    let mut stdin = Kept::new(rt.stdin());
+    let done = programs::run::<Gridcheck, _, _, LIMIT, ROOM>(&mut stdin, &mut io::writer(&rt));
+    if let Err(failed) = done {
+        let e = failed.as_kept(&stdin);
         let _ = eprintln!(rt; "gridcheck: {e}");
     }
 }

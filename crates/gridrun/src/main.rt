@@ -8,6 +8,7 @@ ghost use Rattle.std.proofs.Common.{rules};
 ghost use Rattle.schedule.specs.Streams.{input_limit};
 ghost use Rattle.schedule.specs.Lines.{gridrun};
 
+use input::Kept;
 use programs::{Front, LIMIT, Program};
 use std::io;
 
@@ -20,6 +21,8 @@ const ROOM: usize = 60000;
 struct Gridrun;
 
 impl Program<LIMIT, ROOM> for Gridrun {
+    ghost takes = { input_limit };
+
     ghost printed = { gridrun };
 
     // The lines for what was read. The array that is read into has the limit's length.
@@ -37,6 +40,8 @@ impl Program<LIMIT, ROOM> for Gridrun {
         Front::new(bytes, length)
     }
 
+    ghost limit = { Prim.search rules };
+
     ghost room = { Prim.search rules };
 }
 
@@ -44,8 +49,10 @@ impl Program<LIMIT, ROOM> for Gridrun {
 // refused, and each public function has such an edit.
 // Where a read fails nothing is printed on standard output. What failed, and why, goes to standard error, and the status is 0.
 fn main(rt: HostRuntime) {
-    let done = programs::run::<Gridrun, _, _, LIMIT, ROOM>(&mut rt.stdin(), &mut io::writer(&rt));
-    if let Err(e) = done {
+    let mut stdin = Kept::new(rt.stdin());
+    let done = programs::run::<Gridrun, _, _, LIMIT, ROOM>(&mut stdin, &mut io::writer(&rt));
+    if let Err(failed) = done {
+        let e = failed.as_kept(&stdin);
         let _ = eprintln!(rt; "gridrun: {e}");
     }
 }

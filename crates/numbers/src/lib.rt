@@ -1,7 +1,8 @@
-// The paper's numbers of the refusals, which answers fill the rows of the report, and what is printed of a figure and a digit.
+// The paper's numbers of the refusals, which answers fill the rows of the report, a little arithmetic of figures and ticks, and
+// what is printed of a figure and a digit.
 #![tactic(auto)]
 
-ghost use Rattle.std.specs.Prelude.{◌≡◌, ◌%◌};
+ghost use Rattle.std.specs.Prelude.{◌≡◌, ◌+◌, ◌-◌, ◌%◌, max, min, nat_abs};
 ghost use Rattle.schedule.specs.Report.{fills, is_dash};
 ghost use Rattle.schedule.specs.Lines.{hex_digit};
 ghost use Rattle.schedule.specs.declared.FormRefusal.{FormRefusal};
@@ -135,6 +136,42 @@ pub fn fills(answer: RunVerdict) -> bool
     ensures { result ≡ fills (run_numbers answer) }
 {
     matches!(answer, Ok(_) | Err(Refusal::Run(RunRefusal::Late, _)))
+}
+
+// The larger of two numbers. This and the four below are for callers of this crate: the code of this repository calls the
+// library's methods themselves.
+pub fn larger(x: u32, y: u32) -> u32
+    ensures { result ≡ max x y }
+{
+    x.max(y)
+}
+
+// The smaller of two numbers.
+pub fn smaller(x: u32, y: u32) -> u32
+    ensures { result ≡ min x y }
+{
+    x.min(y)
+}
+
+// A difference that stops at 0.
+pub fn less(x: u32, y: u32) -> u32
+    ensures { result ≡ x - y }
+{
+    x.saturating_sub(y)
+}
+
+// A sum that stops at the largest number.
+pub fn sum(x: u32, y: u32) -> u32
+    ensures { result ≡ min (x + y) 4294967295 }
+{
+    x.saturating_add(y)
+}
+
+// A signed number without its sign.
+pub fn size(x: i32) -> u32
+    ensures { result ≡ nat_abs x }
+{
+    x.unsigned_abs()
 }
 
 // "An activity whose thread has no period gets −2147483648, printed as a dash".

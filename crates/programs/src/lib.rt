@@ -2,12 +2,12 @@
 // fixed: what is read and what is printed stand in arrays.
 #![tactic(auto)]
 
-ghost use Rattle.std.specs.Prelude.{◌≡◌, ◌+◌, ◌^◌, ◌≤◌, ◌<◌, List, ℕ, length, take, IfOk, IfErr};
+ghost use Rattle.std.specs.Prelude.{◌≡◌, ◌+◌, ◌^◌, ◌≤◌, ◌<◌, [], List, ℕ, length, take, None, Some, IfOk, IfErr};
 ghost use Rattle.std.specs.Io.KnownBytes.{Appends, Consumes, IsAtEnd};
 ghost use Rattle.programs.specs.declared.Failed.{Failed};
 ghost use Rattle.programs.specs.Outcome.{MatchFailed};
 
-use input::FillError;
+use input::{FillError, Kept};
 use std::io::{Read, Write};
 use std::marker::Model;
 use std::{fmt, io};
@@ -41,6 +41,28 @@ impl<const N: usize> Front<N> {
         }
     }
 
+    // No bytes.
+    fn empty() -> Front<N>
+        ensures { result ≡ [] }
+    {
+        Front {
+            bytes: [0u8; N],
+            len: 0,
+        }
+    }
+
+    // All that a reader has left, or as much as fits, read into the array where it lies.
+    fn fill<R: Read>(&mut self, reader: &mut R) -> Result<(), FillError>
+        ensures bytes { IfOk result (λ _. Consumes (R.remaining reader.old) (R.remaining reader.new) self.new) }
+        ensures end { IfOk result (λ _. length self.new < N → IsAtEnd (R.remaining reader.new)) }
+        ensures failed { IfErr result (λ e. (came : List ℕ) × (length came ≡ e.read)
+            × Consumes (R.remaining reader.old) (R.remaining reader.new) came) }
+        ensures within { IfErr result (λ e. e.read ≤ N) }
+    {
+        self.len = input::fill(reader, &mut self.bytes)?;
+        Ok(())
+    }
+
     // All that a reader has left, or as much as fits.
     pub fn read<R: Read>(reader: &mut R) -> Result<Front<N>, FillError>
         ensures bytes { IfOk result (λ front. Consumes (R.remaining reader.old) (R.remaining reader.new) front) }
@@ -49,9 +71,9 @@ impl<const N: usize> Front<N> {
             × Consumes (R.remaining reader.old) (R.remaining reader.new) came) }
         ensures within { IfErr result (λ e. e.read ≤ N) }
     {
-        let mut bytes = [0u8; N];
-        let len = input::fill(reader, &mut bytes)?;
-        Ok(Front { bytes, len })
+        let mut front = Front::empty();
+        front.fill(reader)?;
+        Ok(front)
     }
 
     // The bytes themselves.
@@ -68,6 +90,20 @@ impl<const N: usize> Front<N> {
 pub enum Failed {
     Input(io::Error),
     Output(io::Error),
+}
+
+impl Failed {
+    // What went wrong, with the error that the reader kept. A reader's contract names no error, so of the one that comes with an
+    // answer no clause says that it is the read's; of the one that `input::Kept` keeps, its contract says so.
+    pub fn as_kept<R>(self, reader: &Kept<R>) -> Failed
+        ensures kept { (e : _) → reader.now.error ≡ Some e → MatchFailed self (result ≡ Failed.Input e) (result ≡ self) }
+        ensures none { reader.now.error ≡ None → result ≡ self }
+    {
+        match (self, reader.error()) {
+            (Failed::Input(_), Some(e)) => Failed::Input(e),
+            _ => self,
+        }
+    }
 }
 
 // A read's error, which says nothing of how much had come.
@@ -91,10 +127,16 @@ impl fmt::Display for Failed {
 
 // What a program prints, at most OUT bytes, of what it reads, at most the first IN bytes of its input.
 pub trait Program<const IN: usize, const OUT: usize> {
+    // How many bytes of its input it takes at most, and what it prints of them.
+    ghost takes: { ℕ };
+
     ghost printed: { List ℕ → List ℕ };
 
     fn answer(input: &Front<IN>) -> Front<OUT>
         ensures { result ≡ printed input.now };
+
+    // The array that is read into has that many bytes.
+    ghost limit: { IN ≡ takes };
 
     // The two arrays have room in memory.
     ghost room: { IN + OUT < 2 ^ 62 };
@@ -115,7 +157,8 @@ pub fn run<P: Program<IN, OUT>, R: Read, W: Write, const IN: usize, const OUT: u
         ((read : List ℕ) × Consumes (R.remaining reader.old) (R.remaining reader.new) read
         × (length read < IN → IsAtEnd (R.remaining reader.new)))) }
 {
-    let input = Front::read(reader)?;
+    let mut input = Front::empty();
+    input.fill(reader)?;
     let printed = P::answer(&input);
     writer.write_all(printed.as_bytes()).map_err(Failed::Output)
 }

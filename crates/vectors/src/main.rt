@@ -52,7 +52,10 @@ fn next_number<R: Read>(cases: &mut R) -> u32 {
 }
 
 // Reads the next record into the start of the buffer and answers that part; an empty one where the buffer is too short.
-fn next_record<'a, R: Read>(cases: &mut R, buf: &'a mut [u8]) -> &'a mut [u8] {
+fn next_record<'a, R: Read>(cases: &mut R, buf: &'a mut [u8]) -> &'a mut [u8]
+    ensures within { length result.now ≤ length buf.old }
+    ensures front { result.ref_ptr ≡ buf.entry.ref_ptr }
+{
     let n = next_number(cases) as usize;
     if buf.len() < n {
         return &mut buf[..0];

@@ -2,9 +2,8 @@
 -- Assumes nothing.
 use mathlib.Core.Path.{ap, ◌∙◌}
 use Rattle.fields.specs.Put.{put}
-use Rattle.fields.proofs.PutLaws.{four_bytes}
 use Rattle.fields.proofs.put32.Goals as goal
 
 pub returns : goal.returns
 returns c =
-    c.store.ensures ∙ ap (λ b. put c.args.at b c.args.out.now) (c.to_be_bytes.ensures ∙ four_bytes c.args.v)
+    c.store.ensures ∙ ap (λ b. put c.args.at b c.args.out.now) c.split.ensures

@@ -2,8 +2,8 @@
 use Rattle.std.proofs.Common.{arith}
 use Rattle.programs.proofs.run.Goals as goal
 
-pub read-requires : goal.read-requires
-read-requires g c = omega (arith, g.met.P.Program.room)
+pub empty-input-requires : goal.empty-input-requires
+empty-input-requires g c = omega (arith, g.met.P.Program.room)
 
 pub answer-printed-requires : goal.answer-printed-requires
 answer-printed-requires g c = (omega (arith, g.met.P.Program.room), omega (arith, g.met.P.Program.room))
