@@ -32,7 +32,7 @@ impl Tables {
     {
         let now = t as u32;
         let mut next = u32::MAX;
-        for a in 0..self.activities {
+        for a in 0..self.count() {
             let end = ends[a];
             next = sooner(next, self.releases[a], now);
             next = sooner(next, end, now);

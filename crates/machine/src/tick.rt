@@ -31,6 +31,14 @@ fn covered(x: u32, y: u32) -> bool
 }
 
 impl Tables {
+    // How many activities there are. That these are at most 32 the type knows and the compiler does not: told so, it leaves the tests
+    // of a word's bits out of the loops over them.
+    pub(crate) fn count(&self) -> usize
+        ensures { result ≡ self.now.activities }
+    {
+        self.activities.min(32)
+    }
+
     // The word of the activities that pass a test. The tables and the checks have such a function too: its closure needs a
     // `requires`, no public call has one, and a trait with a law in its place would take an impl for each test.
     fn word<F: Fn(usize) -> bool>(&self, test: F) -> u32
@@ -39,7 +47,7 @@ impl Tables {
             → result ≡ word_of self.now.activities p }
     {
         let mut word: u32 = 0;
-        for a in 0..self.activities {
+        for a in 0..self.count() {
             word = bits::mark(word, a as u32, test(a));
         }
         word
@@ -127,7 +135,7 @@ impl Tables {
             word: 0,
             room: self.cores,
         };
-        for k in 0..self.activities {
+        for k in 0..self.count() {
             if walk.rest == 0 {
                 break;
             }

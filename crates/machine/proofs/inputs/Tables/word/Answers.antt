@@ -12,4 +12,4 @@ loop-a-preserved g c =
     let yes = c.test in
     λ p h.
     rw (c.mark-word.ensures, l.invariant p h)
-    (mark_next l.a p yes.result (omega arith) (h l.a yes.result c.loop-a-test.true yes.ensures))
+    (mark_next l.a p yes.result (omega arith) (h l.a yes.result (omega arith) yes.ensures))
